@@ -1,6 +1,6 @@
 -- A list whose front was sent.
-use Rattle.std.proofs.Common.{◌≡◌, ℕ, ◌+◌, ◌-◌, List, ◌++◌, length, take, drop, sym, ap, ◌∙◌, append_assoc, take-append-drop}
-use Rattle.std.proofs.lemmas.List.{drop-drop, take_rest}
+use Rattle.std.proofs.Common.{◌≡◌, ℕ, ◌-◌, List, ◌++◌, length, take, drop, sym, ap, ◌∙◌, append_assoc, take-append-drop}
+use Rattle.std.proofs.lemmas.List.{take_rest}
 
 -- what was sent, and then a front of the rest, leave the rest without that front
 pub sends_front : (all sent rest : List ℕ) (count : ℕ) → all ≡ sent ++ rest → all ≡ (sent ++ take count rest) ++ take (length rest - count) (drop count rest)

@@ -1,5 +1,5 @@
 -- A source and a sink in memory that fail where a test wants it.
-use Rattle.std.specs.Prelude.{ℕ, ◌+◌, ◌-◌, ◌^◌, ◌<◌, ◌⊎◌, ◌≡◌, min, List, length, Contains}
+use Rattle.std.specs.Prelude.{ℕ, ◌+◌, ◌-◌, ◌^◌, ◌⊎◌, ◌≡◌, min, List, length, Contains}
 
 -- a source: the bytes still to come, how many it gives a call, the calls that fail, the calls and the faults so far
 pub record FakeSource : Type 0 where

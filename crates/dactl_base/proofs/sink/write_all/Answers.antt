@@ -1,4 +1,4 @@
-use Rattle.std.proofs.Common.{◌≡◌, ◌++◌, take, arith, rules}
+use Rattle.std.proofs.Common.{◌++◌, take, rules}
 use Rattle.std.proofs.KnownBytes.{Appends-trans}
 use Rattle.dactl_base.proofs.Fronts.{sends_front}
 use Rattle.dactl_base.proofs.sink.write_all.Goals as goal

@@ -1,0 +1,5 @@
+pub mod Lines
+pub mod Input
+pub mod Answering
+pub mod Running
+pub mod Calls

@@ -1,0 +1,47 @@
+//! Reading a source to its end.
+
+ghost use Rattle.std.specs.Prelude.{◌≡◌, ◌≤◌, []};
+ghost use Rattle.dactl_top.specs.Input.{HasRead};
+
+use dactl_base::source::Source;
+
+/// How many bytes a text may have.
+pub const LONGEST: usize = 1_048_576;
+
+// How many bytes are asked for at once.
+const PIECE: usize = 4_096;
+
+/// How the reading of a source ended.
+#[derive(Clone, Copy, Debug, PartialEq, Eq)]
+pub enum Input {
+    /// All of it is read.
+    Whole,
+    /// It gave one byte more than a text may have.
+    TooLong,
+    /// It failed.
+    Failed,
+    /// There is no memory for what it gave.
+    Short,
+}
+
+/// Reads all that the source gives, up to one byte more than a text may have, onto an empty `text`.
+pub fn read_all<S: Source>(source: &mut S, text: &mut Vec<u8>) -> Input
+    requires { text.old.items ≡ [] }
+    ensures read { HasRead (S.left source.old) (S.left source.new) (S.faults source.old) (S.faults source.new) text.new.items result }
+    ensures later { S.faults source.old ≤ S.faults source.new }
+{
+    let mut piece = [0u8; PIECE];
+    'reading: while text.len() <= LONGEST {
+        let room = (LONGEST + 1 - text.len()).min(PIECE);
+        let Ok(count) = source.read(&mut piece[..room]) else {
+            return Input::Failed;
+        };
+        if count == 0 {
+            return Input::Whole;
+        }
+        if text.extend_from_slice(&piece[..count]).is_err() {
+            return Input::Short;
+        }
+    }
+    Input::TooLong
+}

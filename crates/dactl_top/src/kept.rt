@@ -1,0 +1,35 @@
+//! What a call keeps for its caller.
+
+ghost use Rattle.std.specs.Prelude.{◌≡◌, [], None};
+ghost use Rattle.dactl_top.specs.Calls.{IsEmpty};
+
+use dactl_model::graph::{End, Entry};
+use dactl_model::program::Program;
+use std::alloc::Global;
+
+/// What a call read, made and did. It is empty before the call.
+#[derive(Drop)]
+pub struct Kept {
+    /// The bytes that were read.
+    pub text: Vec<u8>,
+    /// What the text says, where it is a program.
+    pub program: Option<Program>,
+    /// The entries of the run, in their order.
+    pub journal: Vec<Entry>,
+    /// How the run ended, where one ran.
+    pub end: Option<End>,
+}
+
+impl Kept {
+    /// Nothing yet. It takes no memory.
+    pub fn empty(alloc: Global) -> Kept
+        ensures { IsEmpty result }
+    {
+        Kept {
+            text: Vec::new(alloc),
+            program: None,
+            journal: Vec::new(alloc),
+            end: None,
+        }
+    }
+}

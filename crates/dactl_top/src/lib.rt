@@ -1,0 +1,13 @@
+//! The whole program: from words and a source text to an answer on a sink.
+#![tactic(auto)]
+
+mod answer;
+pub mod call;
+mod input;
+pub mod kept;
+mod output;
+pub mod run;
+mod scan;
+pub mod status;
+
+pub use call::dactl;
