@@ -2,6 +2,9 @@
 //! over symbols and variables, and one term after `=>`. It stands until the whole grammar takes its
 //! place. What it reads is tested, and not proved to be what the text says.
 
+ghost use Rattle.std.specs.Prelude.{IfOk};
+ghost use Rattle.dactl_model.specs.Programs.{IsValid};
+
 mod contracta;
 mod cursor;
 mod module;
@@ -10,6 +13,7 @@ mod scan;
 mod sign;
 
 use dactl_model::program::Program;
+use dactl_model::validity::is_valid;
 use std::alloc::{AllocError, AllocFailed, Global};
 use thiserror::Error;
 
@@ -36,7 +40,14 @@ impl<T: Drop> From<AllocFailed<T>> for FirstFault {
 }
 
 /// Reads a text of the built part of the language. Any other text is `NotBuilt`.
-pub fn parse_first(alloc: Global, text: &[u8]) -> Result<Program, FirstFault> {
+pub fn parse_first(alloc: Global, text: &[u8]) -> Result<Program, FirstFault>
+    ensures valid { IfOk result IsValid }
+{
     let tokens = scan::tokens(alloc, text)?;
-    module::program(alloc, text, tokens.as_slice())
+    let program = module::program(alloc, text, tokens.as_slice())?;
+    if is_valid(&program) {
+        Ok(program)
+    } else {
+        Err(FirstFault::NotBuilt)
+    }
 }

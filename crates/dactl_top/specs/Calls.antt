@@ -1,6 +1,7 @@
 -- Why a call answers as it does, and what it leaves.
 use Rattle.std.specs.Prelude.{◌≡◌, ℕ, ◌<◌, ◌≤◌, ◌⊎◌, List, [], length, Some, None}
 use Rattle.std.specs.declared.option.Option.{Option}
+use Rattle.dactl_model.specs.declared.graph.NodeId.{NodeId}
 use Rattle.dactl_model.specs.declared.graph.Graph.{Graph}
 use Rattle.dactl_model.specs.declared.graph.Room.{Room}
 use Rattle.dactl_model.specs.declared.graph.Limits.{Limits}
@@ -40,27 +41,53 @@ pub record HasNoRun (kept : Kept) : Type 0 where
 abbrev pub limits : Limits
 limits = record { nodes = 200000; arcs = 800000; budget = 1000 }
 
--- there was one word, the program's name, and the whole text was read
-pub record HasText (call : Call) : Type 0 where
-  pub words : call.words ≤ 1
-  pub text : IsWholeText call.left call.left_after call.kept.text.items
-
 -- what is kept is a run of the kept program, from its first graph to this end, within the limits
-pub record HasRun (call : Call) (ended : End) : Type 0 where
-  pub read : HasText call
+pub record HasRun (kept : Kept) (ended : End) : Type 0 where
   pub program : Program
   pub graph : Graph
-  pub is_program : call.kept.program ≡ Some program
-  pub is_end : call.kept.end ≡ Some ended
-  pub run : IsRun program limits call.kept.journal.items graph ended
+  pub is_program : kept.program ≡ Some program
+  pub is_end : kept.end ≡ Some ended
+  pub run : IsRun program limits kept.journal.items graph ended
 
 -- what is kept is a run that ended full
-pub record HasFullRun (call : Call) : Type 0 where
-  pub node : _
+pub record HasFullRun (kept : Kept) : Type 0 where
+  pub node : NodeId
   pub rule : ℕ
   pub needed : Room
   pub left : Room
-  pub run : HasRun call (end.Full node rule needed left)
+  pub run : HasRun kept (end.Full node rule needed left)
+
+-- the first graph of the kept program does not fit the room
+pub record HasSmall (kept : Kept) : Type 0 where
+  pub program : Program
+  pub needed : Room
+  pub is_program : kept.program ≡ Some program
+  pub small : IsTooSmall limits program needed
+  pub none : HasNoRun kept
+
+-- no program is kept
+pub record HasNoProgram (kept : Kept) : Type 0 where
+  pub program : kept.program ≡ None
+  pub none : HasNoRun kept
+
+-- the answer that tells an end
+abbrev pub IsStatusOf : End → Status → Type 0
+IsStatusOf end.Normal status = status ≡ Normal
+IsStatusOf end.Budget status = status ≡ Budget
+IsStatusOf (end.Full node rule needed left) status = status ≡ Full
+
+-- why an answer is given to a text that was read to its end, by what is kept
+abbrev pub IsKept : Kept → Status → Type 0
+IsKept kept Normal = HasRun kept end.Normal
+IsKept kept Budget = HasRun kept end.Budget
+IsKept kept Full = HasFullRun kept
+IsKept kept Small = HasSmall kept
+IsKept kept NotBuilt = HasNoProgram kept
+IsKept kept Memory = HasNoRun kept
+IsKept kept Usage = ⊥
+IsKept kept ReadFault = ⊥
+IsKept kept WriteFault = ⊥
+IsKept kept TooLong = ⊥
 
 -- the words are not the program's name alone, and nothing was read
 pub record HasUsage (call : Call) : Type 0 where
@@ -72,66 +99,63 @@ pub record HasUsage (call : Call) : Type 0 where
 pub record HasReadFault (call : Call) : Type 0 where
   pub words : call.words ≤ 1
   pub text : IsFailedText call.left call.left_after call.faults call.faults_after call.kept.text.items
-  pub program : call.kept.program ≡ None
-  pub none : HasNoRun call.kept
+  pub none : HasNoProgram call.kept
 
 -- the source gave more than a text may have
 pub record HasLongText (call : Call) : Type 0 where
   pub words : call.words ≤ 1
   pub text : IsLongText call.left call.left_after call.kept.text.items
-  pub program : call.kept.program ≡ None
-  pub none : HasNoRun call.kept
-
--- the text was read and is not built
-pub record HasNotBuilt (call : Call) : Type 0 where
-  pub read : HasText call
-  pub program : call.kept.program ≡ None
-  pub none : HasNoRun call.kept
-
--- the first graph of the kept program does not fit the room
-pub record HasSmall (call : Call) : Type 0 where
-  pub read : HasText call
-  pub program : Program
-  pub needed : Room
-  pub is_program : call.kept.program ≡ Some program
-  pub small : IsTooSmall limits program needed
-  pub none : HasNoRun call.kept
+  pub none : HasNoProgram call.kept
 
 -- memory was wanting before any line was written
 pub record HasNoMemory (call : Call) : Type 0 where
   pub words : call.words ≤ 1
   pub none : HasNoRun call.kept
 
+-- there was one word, the program's name, the whole text was read, and what is kept gives the answer
+pub record HasText (call : Call) (answer : Status) : Type 0 where
+  pub words : call.words ≤ 1
+  pub text : IsWholeText call.left call.left_after call.kept.text.items
+  pub kept : IsKept call.kept answer
+
 -- why a call gives an answer, where the sink takes it
 abbrev pub HasCause : Call → Status → Type 0
-HasCause call Normal = HasRun call end.Normal
-HasCause call Budget = HasRun call end.Budget
-HasCause call Full = HasFullRun call
+HasCause call Normal = HasText call Normal
+HasCause call Budget = HasText call Budget
+HasCause call Full = HasText call Full
+HasCause call Small = HasText call Small
+HasCause call NotBuilt = HasText call NotBuilt
 HasCause call Usage = HasUsage call
 HasCause call ReadFault = HasReadFault call
-HasCause call WriteFault = ⊥
-HasCause call Memory = HasNoMemory call
 HasCause call TooLong = HasLongText call
-HasCause call Small = HasSmall call
-HasCause call NotBuilt = HasNotBuilt call
+HasCause call Memory = HasNoMemory call
+HasCause call WriteFault = ⊥
 
--- which answers are told in one line alone
-abbrev pub IsLine : Status → List ℕ → Type 0
-IsLine Usage due = due ≡ line_of Usage
-IsLine ReadFault due = due ≡ line_of ReadFault
-IsLine Memory due = due ≡ line_of Memory
-IsLine TooLong due = due ≡ line_of TooLong
-IsLine NotBuilt due = due ≡ line_of NotBuilt
-IsLine Normal due = Unit {0}
-IsLine Budget due = Unit {0}
-IsLine Full due = Unit {0}
-IsLine Small due = Unit {0}
-IsLine WriteFault due = Unit {0}
+-- an answer of one line is due in these bytes; of the others only what is kept is said so far
+abbrev pub IsDue : Status → List ℕ → Type 0
+IsDue Usage due = due ≡ line_of Usage
+IsDue ReadFault due = due ≡ line_of ReadFault
+IsDue Memory due = due ≡ line_of Memory
+IsDue TooLong due = due ≡ line_of TooLong
+IsDue NotBuilt due = due ≡ line_of NotBuilt
+IsDue Normal due = Unit {0}
+IsDue Budget due = Unit {0}
+IsDue Full due = Unit {0}
+IsDue Small due = Unit {0}
+IsDue WriteFault due = Unit {0}
 
--- the call had cause for an answer, and gave it with its bytes, or the sink failed and took a front of them
+-- an answer was wanted, and it was given with its bytes, or the sink failed and took a front of them
 pub record IsAnswered (call : Call) (held held' : Option (List ℕ)) (faults faults' : ℕ) (answer : Status) : Type 0 where
   pub wanted : Status
   pub due : List ℕ
   pub cause : HasCause call wanted
-  pub line : IsLine wanted due
+  pub is_due : IsDue wanted due
+  pub given : IsGiven held held' faults faults' due wanted answer
+
+-- the same of the part of a call that has the text
+pub record IsTextAnswered (kept : Kept) (held held' : Option (List ℕ)) (faults faults' : ℕ) (answer : Status) : Type 0 where
+  pub wanted : Status
+  pub due : List ℕ
+  pub cause : IsKept kept wanted
+  pub is_due : IsDue wanted due
   pub given : IsGiven held held' faults faults' due wanted answer

@@ -1,8 +1,10 @@
 //! The top call.
 
-ghost use Rattle.std.specs.Prelude.{◌≡◌, ◌<◌, ◌≤◌, ◌⊎◌, length};
+ghost use Rattle.std.specs.Prelude.{◌≡◌, ◌<◌, ◌≤◌, ◌⊎◌, length, IfOk, OnErr, None};
 ghost use Rattle.dactl_base.specs.Faults.{Rose};
-ghost use Rattle.dactl_top.specs.Calls.{IsEmpty, IsAnswered};
+ghost use Rattle.dactl_model.specs.Programs.{IsValid};
+ghost use Rattle.dactl_top.specs.Calls.{IsEmpty, HasNoRun, HasNoProgram, IsStatusOf, IsKept, IsDue, IsTextAnswered, IsAnswered, HasRun, HasFullRun, HasSmall};
+ghost use Rattle.dactl_top.specs.Input.{longest};
 
 use crate::answer::{give, give_line};
 use crate::input::{Input, read_all};
@@ -24,7 +26,9 @@ const LIMITS: Limits = Limits {
     budget: 1_000,
 };
 
-fn status_of(end: End) -> Status {
+fn status_of(end: End) -> Status
+    ensures { IsStatusOf end result }
+{
     match end {
         End::Normal => Status::Normal,
         End::Budget => Status::Budget,
@@ -32,12 +36,19 @@ fn status_of(end: End) -> Status {
     }
 }
 
-// Runs the program and keeps it, its run and what is to be written.
+// Runs the program, keeps it with its run, and gives the answer with its bytes.
 fn run_and_keep(
     alloc: Global,
     program: Program,
     kept: &mut Kept,
-) -> Result<(Status, Vec<u8>), AllocError> {
+) -> Result<(Status, Vec<u8>), AllocError>
+    requires program { IsValid program }
+    requires none { HasNoRun kept.old }
+    ensures ran { IfOk result (λ answer. IsKept kept.new answer.0) }
+    ensures free { IfOk result (λ answer. IsDue answer.0 answer.1.items) }
+    ensures text { kept.new.text ≡ kept.old.text }
+    ensures none { OnErr result (HasNoRun kept.new) }
+{
     match run(alloc, &program, LIMITS)? {
         Outcome::Small { needed } => {
             let due = output::of_small(alloc, needed)?;
@@ -61,7 +72,11 @@ fn run_and_keep(
 }
 
 // Answers to a text that was read to its end.
-fn answer_text<K: Sink>(alloc: Global, sink: &mut K, kept: &mut Kept) -> Status {
+fn answer_text<K: Sink>(alloc: Global, sink: &mut K, kept: &mut Kept) -> Status
+    requires { HasNoProgram kept.old }
+    ensures answered { IsTextAnswered kept.new (K.holds sink.old) (K.holds sink.new) (K.faults sink.old) (K.faults sink.new) result }
+    ensures text { kept.new.text ≡ kept.old.text }
+{
     let program = match parse_first(alloc, kept.text.as_slice()) {
         Ok(program) => program,
         Err(FirstFault::NotBuilt) => return give_line(sink, Status::NotBuilt),
@@ -83,6 +98,25 @@ pub fn dactl<S: Source, K: Sink>(
     kept: &mut Kept,
 ) -> Status
     requires { IsEmpty kept.old }
+    ensures answered { IsAnswered (record {
+      words = length words.now;
+      left = S.left source.old;
+      left_after = S.left source.new;
+      faults = S.faults source.old;
+      faults_after = S.faults source.new;
+      kept = kept.new;
+    }) (K.holds sink.old) (K.holds sink.new) (K.faults sink.old) (K.faults sink.new) result }
+
+    // What follows from it, answer by answer.
+    ensures usage { result ≡ Status.Usage → 1 < length words.now }
+    ensures only_usage { 1 < length words.now → (result ≡ Status.Usage) ⊎ (result ≡ Status.WriteFault) }
+    ensures read_fault { result ≡ Status.ReadFault → Rose (S.faults source.old) (S.faults source.new) }
+    ensures write_fault { result ≡ Status.WriteFault → Rose (K.faults sink.old) (K.faults sink.new) }
+    ensures too_long { result ≡ Status.TooLong → longest < length kept.new.text.items }
+    ensures normal { result ≡ Status.Normal → HasRun kept.new End.Normal }
+    ensures budget { result ≡ Status.Budget → HasRun kept.new End.Budget }
+    ensures full { result ≡ Status.Full → HasFullRun kept.new }
+    ensures small { result ≡ Status.Small → HasSmall kept.new }
 {
     if words.len() > 1 {
         return give_line(sink, Status::Usage);

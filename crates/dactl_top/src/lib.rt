@@ -11,3 +11,6 @@ mod scan;
 pub mod status;
 
 pub use call::dactl;
+
+#[cfg(test)]
+mod tests;
