@@ -1,0 +1,199 @@
+-- What a number that goes in at the back, or comes out, leaves of the links.
+use Rattle.std.proofs.Common.{◌≡◌, ◌≢◌, ℕ, ◌+◌, ◌-◌, ◌<◌, ◌≤◌, Bool, true, false, ◌||◌, eqb, List, [], ◌∷◌, ◌++◌, length, refl, sym, ap, subst, ◌∙◌, arith, inl, inr}
+use Rattle.std.proofs.lemmas.Bool.{eqb-true, eqb-false, eq-eqb, ne_eqb, or_left, or_right, both_ways, cases_Bool, cond-true, cond-false}
+use Rattle.std.proofs.lemmas.Bool.Decides.{nat_tests}
+use Rattle.std.proofs.lemmas.List.{length_push}
+use Rattle.std.proofs.lemmas.List.Folds.{list_any-append}
+use Rattle.dactl_active.specs.declared.ring.Place.{Place}
+use Rattle.dactl_active.specs.Ring.{has, without, IsValid}
+use Rattle.dactl_active.specs.Places.{next_of, previous_of, Joins, Links, following, Lacks, AreApart, IsRing, Rejoins, Marks}
+use Rattle.dactl_active.proofs.Numbers.{IsDistinct-from_apart, Lacks-from_has, differs, Lacks-push, AreApart-push, length-apart, without-lacking, has-without, AreApart-without, length-without}
+
+-- the numbers linked after a are those that following reads
+pub following_is : (places : List Place) (a : ℕ) (xs : List ℕ) (z : ℕ) → Links places a xs z → following places a (length xs) ≡ xs
+following_is places a [] z links = refl
+following_is places a (x ∷ xs) z links =
+    rw (links.0.next) (ap (λ t. x ∷ t) (following_is places x xs z links.1))
+
+module _ (old new : List Place) (c d : ℕ) (rejoins : Rejoins old new c d) where
+  new_join : Joins new c d
+  new_join = record {
+    next = rejoins.next c ∙ cond-true (eqb c c) d (next_of old c) (eq-eqb c c refl);
+    previous = rejoins.previous d ∙ cond-true (eqb d d) c (previous_of old d) (eq-eqb d d refl);
+  }
+
+  kept_join : (a b : ℕ) → a ≢ c → b ≢ d → Joins old a b → Joins new a b
+  kept_join a b from to join = record {
+    next = rejoins.next a ∙ cond-false (eqb a c) d (next_of old a) (ne_eqb a c from) ∙ join.next;
+    previous = rejoins.previous b ∙ cond-false (eqb b d) c (previous_of old b) (ne_eqb b d to) ∙ join.previous;
+  }
+
+  kept_links : (a : ℕ) (xs : List ℕ) (z : ℕ) → Lacks (a ∷ xs) c → Lacks (xs ++ z ∷ []) d → Links old a xs z → Links new a xs z
+  kept_links a [] z from to links = kept_join a z from.0 to.0 links
+  kept_links a (x ∷ xs) z from to links = (kept_join a x from.0 to.0 links.0, kept_links x xs z from.1 to.1 links.1)
+
+Links-marked : (old new : List Place) (n : ℕ) (b : Bool) → Marks old new n b → (a : ℕ) (xs : List ℕ) (z : ℕ) → Links old a xs z → Links new a xs z
+Links-marked old new n b marks a [] z links = record { next = marks.next a ∙ links.next; previous = marks.previous z ∙ links.previous }
+Links-marked old new n b marks a (x ∷ xs) z links =
+    (record { next = marks.next a ∙ links.0.next; previous = marks.previous x ∙ links.0.previous }, Links-marked old new n b marks x xs z links.1)
+
+has_front : (n : ℕ) (xs : List ℕ) → has (n ∷ xs) n ≡ true
+has_front n xs = or_left (eqb n n) (has xs n) (eq-eqb n n refl)
+
+module _ (places : List Place) where
+  -- what comes before the end is one of the numbers, or the start
+  pub last_within : (a : ℕ) (xs : List ℕ) (z : ℕ) → Links places a xs z → has (a ∷ xs) (previous_of places z) ≡ true
+  last_within a [] z links = rw (links.previous) (has_front a [])
+  last_within a (x ∷ xs) z links = or_right (eqb (previous_of places z) a) (has (x ∷ xs) (previous_of places z)) (last_within x xs z links.1)
+
+  first_within : (a : ℕ) (xs : List ℕ) (z : ℕ) → Links places a xs z → has (xs ++ z ∷ []) (next_of places a) ≡ true
+  first_within a [] z links = rw (links.next) (has_front z [])
+  first_within a (x ∷ xs) z links = subst (λ k. has (x ∷ (xs ++ z ∷ [])) k ≡ true) (sym links.0.next) (has_front x (xs ++ z ∷ []))
+
+  pub previous_within : (a : ℕ) (xs : List ℕ) (z n : ℕ) → Links places a xs z → has xs n ≡ true → has (a ∷ xs) (previous_of places n) ≡ true
+  previous_within a [] z n links present = absurd (both_ways false refl present)
+  previous_within a (x ∷ xs) z n links present = elim (cases_Bool (eqb n x)) [
+    | inl same ↦
+        let before : previous_of places n ≡ a = ap (previous_of places) (eqb-true n x same) ∙ links.0.previous in
+        subst (λ k. has (a ∷ x ∷ xs) k ≡ true) (sym before) (has_front a (x ∷ xs))
+    | inr other ↦
+        let rest : has xs n ≡ true = rw other at present in
+        or_right (eqb (previous_of places n) a) (has (x ∷ xs) (previous_of places n)) (previous_within x xs z n links.1 rest)
+  ]
+
+  pub next_within : (a : ℕ) (xs : List ℕ) (z n : ℕ) → Links places a xs z → has xs n ≡ true → has (xs ++ z ∷ []) (next_of places n) ≡ true
+  next_within a [] z n links present = absurd (both_ways false refl present)
+  next_within a (x ∷ xs) z n links present = elim (cases_Bool (eqb n x)) [
+    | inl same ↦
+        let after = or_right (eqb (next_of places x) x) (has (xs ++ z ∷ []) (next_of places x)) (first_within x xs z links.1) in
+        subst (λ k. has (x ∷ (xs ++ z ∷ [])) (next_of places k) ≡ true) (sym (eqb-true n x same)) after
+    | inr other ↦
+        let rest : has xs n ≡ true = rw other at present in
+        or_right (eqb (next_of places n) x) (has (xs ++ z ∷ []) (next_of places n)) (next_within x xs z n links.1 rest)
+  ]
+
+-- a number that goes in between the last and the end
+pub Links-inserted : (old mid new : List Place) (a : ℕ) (xs : List ℕ) (z n : ℕ) → Rejoins old mid (previous_of old z) n → Rejoins mid new n z → AreApart (a ∷ xs) → Lacks (a ∷ xs) n → Lacks xs z → z ≢ n → Links old a xs z → Links new a (xs ++ n ∷ []) z
+Links-inserted old mid new a [] z n first second apart absent end differ links =
+    let from_a : Rejoins old mid a n = subst (λ c. Rejoins old mid c n) links.previous first in
+    (kept_join mid new n z second a n absent.0 (λ same. differ (sym same)) (new_join old mid a n from_a), new_join mid new n z second)
+Links-inserted old mid new a (x ∷ xs) z n first second apart absent end differ links =
+    let last = last_within old x xs z links.1 in
+    let kept = kept_join old mid (previous_of old z) n first a x (differs (x ∷ xs) a (previous_of old z) apart.0 last) absent.1.0 links.0 in
+    (kept_join mid new n z second a x absent.0 end.0 kept, Links-inserted old mid new x xs z n first second apart.1 absent.1 end.1 differ links.1)
+
+-- the first number comes out
+front_removed : (old new : List Place) (a x : ℕ) (xs : List ℕ) (z : ℕ) → Rejoins old new (previous_of old x) (next_of old x) → AreApart (a ∷ x ∷ xs) → Lacks (x ∷ xs) z → Joins old a x → Links old x xs z → Links new a xs z
+front_removed old new a x [] z rejoins apart end join links =
+    let at_a : Rejoins old new a (next_of old x) = subst (λ c. Rejoins old new c (next_of old x)) join.previous rejoins in
+    new_join old new a z (subst (λ d. Rejoins old new a d) links.next at_a)
+front_removed old new a x (y ∷ ys) z rejoins apart end join links =
+    let at_a : Rejoins old new a (next_of old x) = subst (λ c. Rejoins old new c (next_of old x)) join.previous rejoins in
+    let at_y : Rejoins old new a y = subst (λ d. Rejoins old new a d) links.0.next at_a in
+    (new_join old new a y at_y, kept_links old new a y at_y y ys z apart.0.1 (Lacks-push ys z y apart.1.1.0 (λ same. end.1.0 (sym same))) links.1)
+
+-- a number comes out from where it stands
+pub Links-removed : (old new : List Place) (a : ℕ) (xs : List ℕ) (z n : ℕ) → Rejoins old new (previous_of old n) (next_of old n) → AreApart (a ∷ xs) → Lacks xs z → has xs n ≡ true → Links old a xs z → Links new a (without xs n) z
+Links-removed old new a [] z n rejoins apart end present links = absurd (both_ways false refl present)
+Links-removed old new a (x ∷ xs) z n rejoins apart end present links = elim (cases_Bool (eqb n x)) [
+  | inl same ↦
+      let equal = eqb-true n x same in
+      let at_x : Rejoins old new (previous_of old x) (next_of old x) = subst (λ k. Rejoins old new (previous_of old k) (next_of old k)) equal rejoins in
+      rw (eq-eqb x n (sym equal), without-lacking xs n (subst (λ k. Lacks xs k) (sym equal) apart.1.0)) (front_removed old new a x xs z at_x apart end links.0 links.1)
+  | inr other ↦
+      let rest : has xs n ≡ true = rw other at present in
+      let before = differs (x ∷ xs) a (previous_of old n) apart.0 (previous_within old x xs z n links.1 rest) in
+      let after = differs (xs ++ z ∷ []) x (next_of old n) (Lacks-push xs z x apart.1.0 (λ same. end.0 (sym same))) (next_within old x xs z n links.1 rest) in
+      rw (ne_eqb x n (λ same. eqb-false n x other (sym same))) (kept_join old new (previous_of old n) (next_of old n) rejoins a x before after links.0, Links-removed old new x xs z n rejoins apart.1 end.1 rest links.1)
+]
+
+-- the anchor is none of the numbers
+Lacks-anchor : (xs : List ℕ) (room : ℕ) → ((n : ℕ) → has xs n ≡ true → n < room) → Lacks xs room
+Lacks-anchor [] room below = tt
+Lacks-anchor (x ∷ xs) room below =
+    let front : x < room = below x (has_front x xs) in
+    (λ same. omega arith, Lacks-anchor xs room (λ n present. below n (or_right (eqb n x) (has xs n) present)))
+
+module _ (places : List Place) (room count : ℕ) (xs : List ℕ) (ring : IsRing places room count xs) where
+  -- what the fields say is what the ring reads from them
+  pub numbers_are : following places room count ≡ xs
+  numbers_are = subst (λ k. following places room k ≡ xs) ring.counted (following_is places room xs room ring.linked)
+
+  pub read_ring : IsRing places room count (following places room count)
+  read_ring = subst (λ ys. IsRing places room count ys) (sym numbers_are) ring
+
+  pub few : count ≤ room
+  few = omega (arith, length-apart xs room ring.apart ring.below, ring.counted)
+
+  lacks_anchor : Lacks xs room
+  lacks_anchor = Lacks-anchor xs room ring.below
+
+  apart_from_anchor : AreApart (room ∷ xs)
+  apart_from_anchor = (lacks_anchor, ring.apart)
+
+module _ (places : List Place) (room count : ℕ) (xs : List ℕ) (n : ℕ) (ring : IsRing places room count xs) (in_room : n < room) where
+  pub IsRing-inserted : (mid joined new : List Place) → Rejoins places mid (previous_of places room) n → Rejoins mid joined n room → Marks joined new n true → has xs n ≡ false → IsRing new room (count + 1) (xs ++ n ∷ [])
+  IsRing-inserted mid joined new first second marks absent =
+      let lacks = Lacks-from_has xs n absent in
+      let anchored : Lacks (room ∷ xs) n = (λ same. omega arith, lacks) in
+      let links = Links-inserted places mid joined room xs room n first second (apart_from_anchor places room count xs ring) anchored (lacks_anchor places room count xs ring) (λ same. omega arith) ring.linked in
+      let member : (m : ℕ) → has (xs ++ n ∷ []) m ≡ (has xs m || (eqb m n || false)) = λ m. list_any-append (eqb m) xs (n ∷ []) in
+      record {
+        places_fit = ring.places_fit;
+        long = marks.long ∙ second.long ∙ first.long ∙ ring.long;
+        counted = omega (arith, length_push xs n, ring.counted);
+        below = λ m present. grind (arith, nat_tests, member m, ring.below m);
+        apart = AreApart-push xs n ring.apart lacks;
+        linked = Links-marked joined new n true marks room (xs ++ n ∷ []) room links;
+        marked = λ m inside. grind (arith, nat_tests, member m, ring.marked m, marks.marked m, second.present m, first.present m);
+      }
+
+  pub IsRing-removed : (joined new : List Place) → Rejoins places joined (previous_of places n) (next_of places n) → Marks joined new n false → has xs n ≡ true → IsRing new room (count - 1) (without xs n)
+  IsRing-removed joined new rejoins marks present =
+      let links = Links-removed places joined room xs room n rejoins (apart_from_anchor places room count xs ring) (lacks_anchor places room count xs ring) present ring.linked in
+      record {
+        places_fit = ring.places_fit;
+        long = marks.long ∙ rejoins.long ∙ ring.long;
+        counted = omega (arith, length-without xs n ring.apart present, ring.counted);
+        below = λ m there. grind (arith, nat_tests, has-without xs n m, ring.below m);
+        apart = AreApart-without xs n ring.apart;
+        linked = Links-marked joined new n false marks room (without xs n) room links;
+        marked = λ m inside. grind (arith, nat_tests, has-without xs n m, ring.marked m, marks.marked m, rejoins.present m);
+      }
+
+-- what holds of every ring
+pub valid : (places : List Place) (room count : ℕ) → IsRing places room count (following places room count) → IsValid (record { numbers = following places room count; room = room })
+valid places room count ring = record {
+  distinct = IsDistinct-from_apart (following places room count) ring.apart;
+  below = ring.below;
+}
+
+-- The fields of a ring, and the slice that its places are written through.
+module _ (places slice : List Place) (room count : ℕ) (ring : IsRing places room count (following places room count)) (same : slice ≡ places) where
+  in_range : (k : ℕ) → has (room ∷ following places room count) k ≡ true → k < length slice
+  in_range k within = grind (arith, nat_tests, ring.below k, ring.long, ap length same)
+
+  pub back_in_range : previous_of slice room < length slice
+  back_in_range = in_range (previous_of slice room) (subst (λ s. has (room ∷ following places room count) (previous_of s room) ≡ true) (sym same) (last_within places room (following places room count) room ring.linked))
+
+  module _ (n : ℕ) (inside : n < room) where
+    pub inserted_fields : (mid joined new items : List Place) → Rejoins slice mid (previous_of slice room) n → Rejoins mid joined n room → Marks joined new n true → items ≡ new → has (following places room count) n ≡ false → IsRing items room (count + 1) (following places room count ++ n ∷ [])
+    inserted_fields mid joined new items first second marks written absent =
+        let from : Rejoins places mid (previous_of places room) n = subst (λ s. Rejoins s mid (previous_of s room) n) same first in
+        subst (λ ps. IsRing ps room (count + 1) (following places room count ++ n ∷ [])) (sym written) (IsRing-inserted places room count (following places room count) n ring inside mid joined new from second marks absent)
+
+    pub removed_fields : (joined new items : List Place) → Rejoins slice joined (previous_of slice n) (next_of slice n) → Marks joined new n false → items ≡ new → has (following places room count) n ≡ true → IsRing items room (count - 1) (without (following places room count) n)
+    removed_fields joined new items rejoins marks written present =
+        let from : Rejoins places joined (previous_of places n) (next_of places n) = subst (λ s. Rejoins s joined (previous_of s n) (next_of s n)) same rejoins in
+        subst (λ ps. IsRing ps room (count - 1) (without (following places room count) n)) (sym written) (IsRing-removed places room count (following places room count) n ring inside joined new from marks present)
+
+    pub previous_in_range : has (following places room count) n ≡ true → previous_of slice n < length slice
+    previous_in_range present =
+        in_range (previous_of slice n) (subst (λ s. has (room ∷ following places room count) (previous_of s n) ≡ true) (sym same) (previous_within places room (following places room count) room n ring.linked present))
+
+    pub next_in_range : has (following places room count) n ≡ true → next_of slice n < length slice
+    next_in_range present =
+        let after = next_within places room (following places room count) room n ring.linked present in
+        let split = list_any-append (eqb (next_of places n)) (following places room count) (room ∷ []) in
+        let within : has (room ∷ following places room count) (next_of places n) ≡ true = grind (arith, nat_tests, split, after) in
+        in_range (next_of slice n) (subst (λ s. has (room ∷ following places room count) (next_of s n) ≡ true) (sym same) within)

@@ -1,0 +1,7 @@
+use Rattle.std.proofs.Common.{subst}
+use Rattle.dactl_active.specs.Ring.{IsValid}
+use Rattle.dactl_active.proofs.Linking.{valid}
+use Rattle.dactl_active.proofs.ring.Ring.len.Goals as goal
+
+pub returns-clause-valid : goal.returns-clause-valid
+returns-clause-valid c = subst IsValid c.self.view_is (valid _ _ _ c.self.invariant)

@@ -1,0 +1,8 @@
+use Rattle.std.proofs.Common.{◌≡◌, map, take}
+use Rattle.dactl_arcs.specs.Kept.{IsKept}
+use Rattle.dactl_arcs.specs.Moves.{parked}
+use Rattle.dactl_arcs.proofs.pool.park.Given as goal
+
+-- the arcs of the pairs so far are parked
+abbrev pub invariant-loop-place : goal.invariant-loop-place
+invariant-loop-place l = IsKept l.initial.lists l.lists × (l.lists.arcs ≡ map (parked l.spare (take l.place l.moves)) l.initial.lists.arcs)

@@ -1,0 +1,183 @@
+//! Arcs in lists: a slot for each list, and in it the arcs whose target the slot is.
+
+ghost use Rattle.std.specs.Prelude.{◌≡◌, ◌≢◌, ℕ, ◌+◌, ◌<◌, ◌^◌, [], ◌∷◌, ◌++◌, length, map, replicate, slice_get, slice_set, slice_index_or, Some, IfOk, IfSome};
+ghost use Rattle.dactl_arcs.specs.Pool.{LeadsTo, targets, arcs_into, target_of, rest_of_walk};
+ghost use Rattle.dactl_arcs.specs.Moves.{record_at, retargeted, sent_to, idle, cleared};
+ghost use Rattle.dactl_arcs.specs.Kept.{IsKept, IsValidLists};
+
+use std::alloc::{AllocError, Global};
+use std::marker::Model;
+
+/// Want of memory.
+pub type Memory = AllocError;
+
+/// An arc: the node it starts from, the node it leads to, and whether its owner waits along it.
+#[derive(Clone, Copy, Debug, PartialEq, Eq)]
+pub struct ArcRecord {
+    pub owner: u32,
+    pub target: u32,
+    pub waits: bool,
+}
+
+/// An arc, and the one after it in the list of its target.
+#[derive(Clone, Copy, Drop)]
+struct LinkedArc {
+    arc: ArcRecord,
+    next: Option<u32>,
+}
+
+/// A list of arcs for each slot.
+#[derive(Drop)]
+pub struct Lists {
+    // The first arc of each slot's list.
+    firsts: Vec<Option<u32>>,
+    arcs: Vec<LinkedArc>,
+    room: u32,
+}
+
+impl Model for Lists {
+    ghost use Rattle.std.specs.Prelude.{vec_capacity};
+    ghost use Rattle.dactl_arcs.specs.Pool.{Pool};
+
+    ghost Value = { Pool };
+
+    ghost use Rattle.dactl_arcs.specs.Links.{records_of, lists_of, IsSound};
+
+    ghost view = { λ l. record {
+      arcs = records_of l.arcs.items;
+      into = lists_of l.firsts.items l.arcs.items;
+      room = l.room;
+    } };
+
+    ghost invariant = { λ l. IsSound l.firsts.items l.arcs.items l.room (vec_capacity l.arcs) };
+}
+
+impl Lists {
+    /// Empty lists, so many of them, with room for so many arcs.
+    pub fn with_room(alloc: Global, slots: usize, arcs: u32) -> Result<Lists, Memory>
+        ensures arcs { IfOk result (λ lists. lists.arcs ≡ []) }
+        ensures slots { IfOk result (λ lists. targets lists ≡ slots) }
+        ensures room { IfOk result (λ lists. lists.room ≡ arcs) }
+    {
+        Ok(Lists {
+            firsts: vec![in alloc; None; slots]?,
+            arcs: Vec::with_capacity(alloc, arcs as usize)?,
+            room: arcs,
+        })
+    }
+
+    pub fn len(&self) -> u32
+        ensures len { result ≡ length self.now.arcs }
+        ensures valid { IsValidLists self.now }
+    {
+        self.arcs.len() as u32
+    }
+
+    pub fn room(&self) -> u32
+        ensures { result ≡ self.now.room }
+    {
+        self.room
+    }
+
+    pub fn arc(&self, arc: u32) -> ArcRecord
+        requires { arc < length self.now.arcs }
+        ensures { slice_get self.now.arcs arc ≡ Some result }
+    {
+        self.arcs[arc as usize].arc
+    }
+
+    /// Adds the arc in front of the list of its target.
+    pub fn push(&mut self, arc: ArcRecord)
+        requires room { length self.old.arcs < self.old.room }
+        requires target { arc.target < targets self.old }
+        ensures arcs { self.new.arcs ≡ self.old.arcs ++ arc ∷ [] }
+        ensures kept { IsKept self.old self.new }
+    {
+        let number = self.arcs.len() as u32;
+        let next = self.firsts[arc.target as usize];
+        self.firsts[arc.target as usize] = Some(number);
+        self.arcs.push_reserved(LinkedArc { arc, next });
+    }
+
+    /// The first arc of the slot's list.
+    pub fn first_into(&self, slot: u32) -> Option<u32>
+        requires { slot < targets self.now }
+        ensures first { result ≡ slice_get (arcs_into self.now slot) 0 }
+        ensures whole { rest_of_walk result (arcs_into self.now slot) ≡ arcs_into self.now slot }
+        ensures leads { IfSome result (LeadsTo self.now slot) }
+        ensures valid { IsValidLists self.now }
+    {
+        self.firsts[slot as usize]
+    }
+
+    /// The arc after this one in its list.
+    pub fn next_into(&self, arc: u32) -> Option<u32>
+        requires { arc < length self.now.arcs }
+        ensures next { let walk = arcs_into self.now (target_of self.now.arcs arc) in
+            result ≡ slice_get (rest_of_walk (Some arc) walk) 1 }
+        ensures rest { let walk = arcs_into self.now (target_of self.now.arcs arc) in
+            rest_of_walk (Some arc) walk ≡ arc ∷ rest_of_walk result walk }
+        ensures leads { IfSome result (LeadsTo self.now (target_of self.now.arcs arc)) }
+    {
+        self.arcs[arc as usize].next
+    }
+
+    // Moves the first arc of a list in front of another.
+    fn move_first(&mut self, arc: u32, from: u32, to: u32)
+        requires different { from ≢ to }
+        requires from_in_range { from < targets self.old }
+        requires to_in_range { to < targets self.old }
+        requires first { slice_get (arcs_into self.old from) 0 ≡ Some arc }
+        ensures arcs { self.new.arcs ≡ slice_set self.old.arcs arc (sent_to to (record_at self.old.arcs arc)) }
+        ensures fewer { length (arcs_into self.new from) + 1 ≡ length (arcs_into self.old from) }
+        ensures kept { IsKept self.old self.new }
+    {
+        let LinkedArc { arc: record, next } = self.arcs[arc as usize];
+        let behind = self.firsts[to as usize];
+        self.arcs[arc as usize] = LinkedArc {
+            arc: ArcRecord {
+                target: to,
+                ..record
+            },
+            next: behind,
+        };
+        self.firsts[from as usize] = next;
+        self.firsts[to as usize] = Some(arc);
+    }
+
+    fn clear(&mut self, arc: u32)
+        requires { arc < length self.old.arcs }
+        ensures arcs { self.new.arcs ≡ slice_set self.old.arcs arc (idle (record_at self.old.arcs arc)) }
+        ensures into { self.new.into ≡ self.old.into }
+        ensures room { self.new.room ≡ self.old.room }
+    {
+        self.arcs[arc as usize].arc.waits = false;
+    }
+
+    /// Moves all arcs of one slot to another.
+    pub fn move_all(&mut self, from: u32, to: u32)
+        requires different { from ≢ to }
+        requires from_in_range { from < targets self.old }
+        requires to_in_range { to < targets self.old }
+        ensures arcs { self.new.arcs ≡ map (retargeted ((from, to) ∷ [])) self.old.arcs }
+        ensures kept { IsKept self.old self.new }
+    {
+        while let Some(arc) = self.first_into(from) {
+            self.move_first(arc, from, to);
+        }
+    }
+
+    /// Clears the flags of the arcs in the slot's list.
+    pub fn clear_waits(&mut self, slot: u32)
+        requires { slot < targets self.old }
+        ensures arcs { self.new.arcs ≡ map (cleared slot) self.old.arcs }
+        ensures into { self.new.into ≡ self.old.into }
+        ensures room { self.new.room ≡ self.old.room }
+    {
+        let mut at = self.first_into(slot);
+        while let Some(arc) = at {
+            self.clear(arc);
+            at = self.next_into(arc);
+        }
+    }
+}

@@ -1,0 +1,184 @@
+//! The pool.
+
+ghost use Rattle.std.specs.Prelude.{◌≡◌, ◌+◌, ◌<◌, ◌≤◌, ◌^◌, ◌↔◌, [], ◌∷◌, ◌++◌, length, map, slice_get, Some, IfOk, IfSome, OnOk, OnErr, IsErr};
+ghost use Rattle.dactl_arcs.specs.Pool.{IsValid, LeadsTo, arcs_into, rest_of_walk, target_of, targets};
+ghost use Rattle.dactl_arcs.specs.Moves.{cleared, landed, parked, retargeted};
+ghost use Rattle.dactl_arcs.specs.Kept.{AreBelow, IsKept};
+
+use crate::lists::{ArcRecord, Lists, Memory};
+use std::alloc::{AllocError, Global};
+use std::marker::Model;
+use thiserror::Error;
+
+/// How many pairs one call moves at most.
+pub const MOST_MOVES: u32 = 65;
+
+/// The pool has no room for a further arc.
+#[derive(Debug, Drop, Error)]
+#[error("the pool of arcs is full")]
+pub struct PoolFull;
+
+/// Arcs between numbered nodes, each with the list of the arcs into it.
+///
+/// Arcs are numbered from 0 in the order in which they were added, and stay. No call but `with_room`
+/// takes memory.
+#[derive(Drop)]
+pub struct ArcPool {
+    // The lists of the targets, and behind them the spare ones for a call that moves.
+    lists: Lists,
+    targets: u32,
+}
+
+impl Model for ArcPool {
+    ghost use Rattle.std.specs.Prelude.{take};
+    ghost use Rattle.dactl_arcs.specs.Pool.{Pool};
+
+    ghost Value = { Pool };
+
+    ghost use Rattle.dactl_arcs.specs.Kept.{IsOver};
+
+    ghost view = { λ p. record {
+      arcs = p.lists.arcs;
+      into = take p.targets p.lists.into;
+      room = p.lists.room;
+    } };
+
+    ghost invariant = { λ p. IsOver p.lists p.targets };
+}
+
+// Moves the arcs into the first number of each pair to the pair's own spare slot. A number that an earlier
+// pair began with has no arcs left.
+fn park(lists: &mut Lists, moves: &[(u32, u32)], spare: u32)
+    requires slots { spare + length moves.now ≤ targets lists.old }
+    requires fits { spare + length moves.now < 2 ^ 32 }
+    requires below { AreBelow spare moves.now }
+    ensures arcs { lists.new.arcs ≡ map (parked spare moves.now) lists.old.arcs }
+    ensures kept { IsKept lists.old lists.new }
+{
+    for (place, pair) in moves.iter().enumerate() {
+        lists.move_all(pair.0, spare + place as u32);
+    }
+}
+
+// Moves the arcs in each pair's spare slot to the pair's second number.
+fn land(lists: &mut Lists, moves: &[(u32, u32)], spare: u32)
+    requires slots { spare + length moves.now ≤ targets lists.old }
+    requires fits { spare + length moves.now < 2 ^ 32 }
+    requires below { AreBelow spare moves.now }
+    ensures arcs { lists.new.arcs ≡ map (landed spare moves.now) lists.old.arcs }
+    ensures kept { IsKept lists.old lists.new }
+{
+    for (place, pair) in moves.iter().enumerate() {
+        lists.move_all(spare + place as u32, pair.1);
+    }
+}
+
+impl ArcPool {
+    /// An empty pool, with room for so many arcs between so many nodes.
+    ///
+    /// Want of memory comes at the latest where `targets` is above `u32::MAX - 65`.
+    pub fn with_room(alloc: Global, targets: u32, arcs: u32) -> Result<ArcPool, Memory>
+        ensures arcs { IfOk result (λ pool. pool.arcs ≡ []) }
+        ensures number { IfOk result (λ pool. length pool.into ≡ targets) }
+        ensures room { IfOk result (λ pool. pool.room ≡ arcs) }
+    {
+        if targets > u32::MAX - MOST_MOVES {
+            return Err(AllocError);
+        }
+        let lists = Lists::with_room(alloc, targets as usize + MOST_MOVES as usize, arcs)?;
+        Ok(ArcPool { lists, targets })
+    }
+
+    /// How many arcs there are.
+    pub fn len(&self) -> u32
+        ensures len { result ≡ length self.now.arcs }
+        ensures valid { IsValid self.now }
+    {
+        self.lists.len()
+    }
+
+    /// How many arcs there may be.
+    pub fn room(&self) -> u32
+        ensures { result ≡ self.now.room }
+    {
+        self.lists.room()
+    }
+
+    /// Adds an arc and gives its number, the next one. A full pool stays as it is.
+    pub fn add(&mut self, owner: u32, target: u32, waits: bool) -> Result<u32, PoolFull>
+        requires owner { owner < targets self.old }
+        requires target { target < targets self.old }
+        ensures number { IfOk result (λ arc. arc ≡ length self.old.arcs) }
+        ensures added { OnOk result (self.new.arcs ≡ self.old.arcs ++ record { owner = owner; target = target; waits = waits } ∷ []) }
+        ensures kept { IsKept self.old self.new }
+
+        ensures full { IsErr result ↔ (length self.old.arcs ≡ self.old.room) }
+        ensures err { OnErr result (self.new ≡ self.old) }
+    {
+        let number = self.lists.len();
+        if number == self.lists.room() {
+            return Err(PoolFull);
+        }
+        self.lists.push(ArcRecord {
+            owner,
+            target,
+            waits,
+        });
+        Ok(number)
+    }
+
+    /// The arc of this number.
+    pub fn arc(&self, arc: u32) -> ArcRecord
+        requires { arc < length self.now.arcs }
+        ensures { slice_get self.now.arcs arc ≡ Some result }
+    {
+        self.lists.arc(arc)
+    }
+
+    /// The arc at which a walk along the arcs into the target begins.
+    pub fn first_into(&self, target: u32) -> Option<u32>
+        requires { target < targets self.now }
+        ensures first { result ≡ slice_get (arcs_into self.now target) 0 }
+        ensures whole { rest_of_walk result (arcs_into self.now target) ≡ arcs_into self.now target }
+        ensures leads { IfSome result (LeadsTo self.now target) }
+        ensures valid { IsValid self.now }
+    {
+        self.lists.first_into(target)
+    }
+
+    /// The arc at which a walk that has come to this arc goes on.
+    pub fn next_into(&self, arc: u32) -> Option<u32>
+        requires { arc < length self.now.arcs }
+        ensures next { let walk = arcs_into self.now (target_of self.now.arcs arc) in
+            result ≡ slice_get (rest_of_walk (Some arc) walk) 1 }
+        ensures rest { let walk = arcs_into self.now (target_of self.now.arcs arc) in
+            rest_of_walk (Some arc) walk ≡ arc ∷ rest_of_walk result walk }
+        ensures leads { IfSome result (LeadsTo self.now (target_of self.now.arcs arc)) }
+    {
+        self.lists.next_into(arc)
+    }
+
+    /// Sends each arc into the first number of a pair to its second, all at the same time: no arc is
+    /// moved twice, and of the pairs that begin with its target the first one counts.
+    ///
+    /// It takes time for the arcs that are moved and for the pairs, and not for the others.
+    pub fn move_many(&mut self, moves: &[(u32, u32)])
+        requires few { length moves.now ≤ MOST_MOVES }
+        requires below { AreBelow (targets self.old) moves.now }
+        ensures arcs { self.new.arcs ≡ map (retargeted moves.now) self.old.arcs }
+        ensures kept { IsKept self.old self.new }
+    {
+        park(&mut self.lists, moves, self.targets);
+        land(&mut self.lists, moves, self.targets);
+    }
+
+    /// Clears the flags of the arcs into the target.
+    pub fn clear_waits(&mut self, target: u32)
+        requires { target < targets self.old }
+        ensures arcs { self.new.arcs ≡ map (cleared target) self.old.arcs }
+        ensures into { self.new.into ≡ self.old.into }
+        ensures room { self.new.room ≡ self.old.room }
+    {
+        self.lists.clear_waits(target);
+    }
+}
