@@ -1,5 +1,5 @@
 -- Why a call answers as it does, and what it leaves.
-use Rattle.std.specs.Prelude.{◌≡◌, ℕ, ◌<◌, ◌≤◌, ◌⊎◌, List, [], length, Some, None}
+use Rattle.std.specs.Prelude.{◌≡◌, ℕ, ◌<◌, ◌≤◌, List, [], Some, None}
 use Rattle.std.specs.declared.option.Option.{Option}
 use Rattle.dactl_model.specs.declared.graph.NodeId.{NodeId}
 use Rattle.dactl_model.specs.declared.graph.Graph.{Graph}
@@ -12,8 +12,8 @@ use Rattle.dactl_top.specs.declared.kept.Kept.{Kept}
 use Rattle.dactl_top.specs.declared.status.Status.{Status}
 use Rattle.dactl_top.specs.declared.status.Status.TheVariants.{Normal, Budget, Usage, Full, ReadFault, WriteFault, Memory, TooLong, Small, NotBuilt}
 use Rattle.dactl_top.specs.Input.{IsWholeText, IsLongText, IsFailedText}
-use Rattle.dactl_top.specs.Running.{IsRun, IsTooSmall}
-use Rattle.dactl_top.specs.Lines.{line_of}
+use Rattle.dactl_top.specs.Running.{IsRun, IsTooSmall, start_room}
+use Rattle.dactl_top.specs.Lines.{line_of, small_line}
 use Rattle.dactl_top.specs.Answering.{IsGiven}
 
 -- nothing is kept yet
@@ -131,25 +131,31 @@ HasCause call TooLong = HasLongText call
 HasCause call Memory = HasNoMemory call
 HasCause call WriteFault = ⊥
 
--- an answer of one line is due in these bytes; of the others only what is kept is said so far
-abbrev pub IsDue : Status → List ℕ → Type 0
-IsDue Usage due = due ≡ line_of Usage
-IsDue ReadFault due = due ≡ line_of ReadFault
-IsDue Memory due = due ≡ line_of Memory
-IsDue TooLong due = due ≡ line_of TooLong
-IsDue NotBuilt due = due ≡ line_of NotBuilt
-IsDue Normal due = Unit {0}
-IsDue Budget due = Unit {0}
-IsDue Full due = Unit {0}
-IsDue Small due = Unit {0}
-IsDue WriteFault due = Unit {0}
+-- what the first graph of the kept program takes is told in one line
+pub record IsSmallLine (kept : Kept) (due : List ℕ) : Type 0 where
+  pub program : Program
+  pub is_program : kept.program ≡ Some program
+  pub line : due ≡ small_line (start_room program)
+
+-- the bytes that are due for an answer; of a run they are not said so far
+abbrev pub IsDue : Kept → Status → List ℕ → Type 0
+IsDue kept Usage due = due ≡ line_of Usage
+IsDue kept ReadFault due = due ≡ line_of ReadFault
+IsDue kept Memory due = due ≡ line_of Memory
+IsDue kept TooLong due = due ≡ line_of TooLong
+IsDue kept NotBuilt due = due ≡ line_of NotBuilt
+IsDue kept Small due = IsSmallLine kept due
+IsDue kept Normal due = Unit {0}
+IsDue kept Budget due = Unit {0}
+IsDue kept Full due = Unit {0}
+IsDue kept WriteFault due = Unit {0}
 
 -- an answer was wanted, and it was given with its bytes, or the sink failed and took a front of them
 pub record IsAnswered (call : Call) (held held' : Option (List ℕ)) (faults faults' : ℕ) (answer : Status) : Type 0 where
   pub wanted : Status
   pub due : List ℕ
   pub cause : HasCause call wanted
-  pub is_due : IsDue wanted due
+  pub is_due : IsDue call.kept wanted due
   pub given : IsGiven held held' faults faults' due wanted answer
 
 -- the same of the part of a call that has the text
@@ -157,5 +163,5 @@ pub record IsTextAnswered (kept : Kept) (held held' : Option (List ℕ)) (faults
   pub wanted : Status
   pub due : List ℕ
   pub cause : IsKept kept wanted
-  pub is_due : IsDue wanted due
+  pub is_due : IsDue kept wanted due
   pub given : IsGiven held held' faults faults' due wanted answer

@@ -1,5 +1,6 @@
 -- The exit code of each answer, and the line of each answer that is one line alone.
-use Rattle.std.specs.Prelude.{ℕ, List, codes, []}
+use Rattle.std.specs.Prelude.{ℕ, List, codes, [], ◌++◌, decimal}
+use Rattle.dactl_model.specs.declared.graph.Room.{Room}
 use Rattle.dactl_top.specs.declared.status.Status.{Status}
 use Rattle.dactl_top.specs.declared.status.Status.TheVariants.{Normal, Budget, Usage, Full, ReadFault, WriteFault, Memory, TooLong, Small, NotBuilt}
 
@@ -28,3 +29,7 @@ line_of Memory = codes "memory\n"
 line_of TooLong = codes "too long\n"
 line_of Small = []
 line_of NotBuilt = codes "not built\n"
+
+-- the line that tells what the first graph needs
+abbrev pub small_line : Room → List ℕ
+small_line needed = codes "small " ++ decimal needed.nodes ++ codes " " ++ decimal needed.arcs ++ codes "\n"

@@ -45,7 +45,7 @@ fn run_and_keep(
     requires program { IsValid program }
     requires none { HasNoRun kept.old }
     ensures ran { IfOk result (λ answer. IsKept kept.new answer.0) }
-    ensures free { IfOk result (λ answer. IsDue answer.0 answer.1.items) }
+    ensures due { IfOk result (λ answer. IsDue kept.new answer.0 answer.1.items) }
     ensures text { kept.new.text ≡ kept.old.text }
     ensures none { OnErr result (HasNoRun kept.new) }
 {

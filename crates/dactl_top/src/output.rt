@@ -1,7 +1,8 @@
 //! The output of a run: the end line, and the graph below the root. What it writes is tested; the
 //! printer that is proved takes its place.
 
-ghost use Rattle.std.specs.Prelude.{◌≡◌};
+ghost use Rattle.std.specs.Prelude.{◌≡◌, IfOk, OnOk, decimal, ◌++◌};
+ghost use Rattle.dactl_top.specs.Lines.{small_line};
 
 use dactl_base::digits::Digits;
 use dactl_model::graph::{Arc, End, Graph, Label, Mark, Node, Room};
@@ -41,7 +42,9 @@ fn visit_below(alloc: Global, graph: &Graph) -> Result<Order, AllocError> {
     Ok(order)
 }
 
-fn push_number(digits: &mut Digits, number: usize, text: &mut Vec<u8>) -> Result<(), AllocError> {
+fn push_number(digits: &mut Digits, number: usize, text: &mut Vec<u8>) -> Result<(), AllocError>
+    ensures { OnOk result (text.new.items ≡ text.old.items ++ decimal number) }
+{
     text.extend_from_slice(digits.text(number as i128))
 }
 
@@ -143,7 +146,9 @@ pub fn of_run(
 }
 
 /// The bytes of the answer to a first graph that does not fit.
-pub fn of_small(alloc: Global, needed: Room) -> Result<Vec<u8>, AllocError> {
+pub fn of_small(alloc: Global, needed: Room) -> Result<Vec<u8>, AllocError>
+    ensures { IfOk result (λ line. line.items ≡ small_line needed) }
+{
     let mut digits = Digits::new();
     let mut text = Vec::from_slice(alloc, b"small ")?;
     push_number(&mut digits, needed.nodes as usize, &mut text)?;
