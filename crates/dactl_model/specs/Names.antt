@@ -29,6 +29,7 @@ unfoldable pub keywords : List (List ℕ)
 keywords =
     codes "MODULE" ∷ codes "ENDMODULE" ∷ codes "IMPORTS" ∷ codes "SYMBOL" ∷ codes "PATTERN" ∷ codes "RULE" ∷ codes "INITIAL" ∷ codes "PUBLIC" ∷ codes "REWRITABLE" ∷ codes "OVERWRITABLE" ∷ codes "CREATABLE" ∷ codes "ANY" ∷ codes "INT" ∷ []
 
+-- the name is a keyword
 unfoldable pub is_keyword : List ℕ → Bool
 is_keyword name = list_any (bytes_eq name) keywords
 
