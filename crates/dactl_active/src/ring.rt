@@ -1,6 +1,6 @@
 //! The ring: a doubly linked list round an anchor, by number.
 
-ghost use Rattle.std.specs.Prelude.{◌≡◌, ℕ, ◌+◌, ◌<◌, [], length, slice_get, IfOk};
+ghost use Rattle.std.specs.Prelude.{◌≡◌, ◌<◌, [], length, slice_get, IfOk};
 ghost use Rattle.dactl_active.specs.Ring.{has, inserted, without, turned, IsValid};
 ghost use Rattle.dactl_active.specs.Places.{Rejoins, Marks};
 
@@ -53,6 +53,7 @@ fn join(places: &mut [Place], before: u32, after: u32)
     places[after as usize].previous = before;
 }
 
+// Says of n whether it is in the ring.
 fn mark(places: &mut [Place], n: u32, present: bool)
     requires { n < length places.old }
     ensures { Marks places.old places.new n present }

@@ -1,6 +1,6 @@
 //! Arcs in lists: a slot for each list, and in it the arcs whose target the slot is.
 
-ghost use Rattle.std.specs.Prelude.{◌≡◌, ◌≢◌, ℕ, ◌+◌, ◌<◌, ◌^◌, [], ◌∷◌, ◌++◌, length, map, replicate, slice_get, slice_set, slice_index_or, Some, IfOk, IfSome};
+ghost use Rattle.std.specs.Prelude.{◌≡◌, ◌≢◌, ◌+◌, ◌<◌, [], ◌∷◌, ◌++◌, length, map, slice_get, slice_set, Some, IfOk, IfSome};
 ghost use Rattle.dactl_arcs.specs.Pool.{LeadsTo, targets, arcs_into, target_of, rest_of_walk};
 ghost use Rattle.dactl_arcs.specs.Moves.{record_at, retargeted, sent_to, idle, cleared};
 ghost use Rattle.dactl_arcs.specs.Kept.{IsKept, IsValidLists};
@@ -66,6 +66,7 @@ impl Lists {
         })
     }
 
+    /// How many arcs there are in all lists.
     pub fn len(&self) -> u32
         ensures len { result ≡ length self.now.arcs }
         ensures valid { IsValidLists self.now }
@@ -145,6 +146,7 @@ impl Lists {
         self.firsts[to as usize] = Some(arc);
     }
 
+    // Clears one flag.
     fn clear(&mut self, arc: u32)
         requires { arc < length self.old.arcs }
         ensures arcs { self.new.arcs ≡ slice_set self.old.arcs arc (idle (record_at self.old.arcs arc)) }

@@ -1,7 +1,7 @@
 //! The pool.
 
 ghost use Rattle.std.specs.Prelude.{◌≡◌, ◌+◌, ◌<◌, ◌≤◌, ◌^◌, ◌↔◌, [], ◌∷◌, ◌++◌, length, map, slice_get, Some, IfOk, IfSome, OnOk, OnErr, IsErr};
-ghost use Rattle.dactl_arcs.specs.Pool.{IsValid, LeadsTo, arcs_into, rest_of_walk, target_of, targets};
+ghost use Rattle.dactl_arcs.specs.Pool.{IsValid, LeadsTo, arc_record, arcs_into, rest_of_walk, target_of, targets};
 ghost use Rattle.dactl_arcs.specs.Moves.{cleared, landed, parked, retargeted};
 ghost use Rattle.dactl_arcs.specs.Kept.{AreBelow, IsKept};
 
@@ -20,8 +20,9 @@ pub struct PoolFull;
 
 /// Arcs between numbered nodes, each with the list of the arcs into it.
 ///
-/// Arcs are numbered from 0 in the order in which they were added, and stay. No call but `with_room`
-/// takes memory.
+/// Arcs are numbered from 0 in the order in which they were added, and stay. A walk from `first_into` by
+/// `next_into` visits each arc into a node once, in an order that is left open and that may change where
+/// arcs are added or moved. No call but `with_room` takes memory.
 #[derive(Drop)]
 pub struct ArcPool {
     // The lists of the targets, and behind them the spare ones for a call that moves.
@@ -109,7 +110,7 @@ impl ArcPool {
         requires owner { owner < targets self.old }
         requires target { target < targets self.old }
         ensures number { IfOk result (λ arc. arc ≡ length self.old.arcs) }
-        ensures added { OnOk result (self.new.arcs ≡ self.old.arcs ++ record { owner = owner; target = target; waits = waits } ∷ []) }
+        ensures added { OnOk result (self.new.arcs ≡ self.old.arcs ++ arc_record owner target waits ∷ []) }
         ensures kept { IsKept self.old self.new }
 
         ensures full { IsErr result ↔ (length self.old.arcs ≡ self.old.room) }
@@ -135,7 +136,7 @@ impl ArcPool {
         self.lists.arc(arc)
     }
 
-    /// The arc at which a walk along the arcs into the target begins.
+    /// The arc at which a walk along the arcs into the target begins, if there are any.
     pub fn first_into(&self, target: u32) -> Option<u32>
         requires { target < targets self.now }
         ensures first { result ≡ slice_get (arcs_into self.now target) 0 }
@@ -146,7 +147,7 @@ impl ArcPool {
         self.lists.first_into(target)
     }
 
-    /// The arc at which a walk that has come to this arc goes on.
+    /// The arc at which a walk that has come to this arc goes on, unless it is the last.
     pub fn next_into(&self, arc: u32) -> Option<u32>
         requires { arc < length self.now.arcs }
         ensures next { let walk = arcs_into self.now (target_of self.now.arcs arc) in
@@ -172,7 +173,7 @@ impl ArcPool {
         land(&mut self.lists, moves, self.targets);
     }
 
-    /// Clears the flags of the arcs into the target.
+    /// Clears the flags of the arcs into the target, in the time of a walk along them.
     pub fn clear_waits(&mut self, target: u32)
         requires { target < targets self.old }
         ensures arcs { self.new.arcs ≡ map (cleared target) self.old.arcs }

@@ -1,4 +1,5 @@
-//! A caller that walks, and one run through the calls with the records that a reader would write down.
+//! A caller that walks, one run through the calls with the records that a reader would write down, and a
+//! pool at the greatest size.
 
 ghost use Rattle.std.specs.Prelude.{◌≡◌, ◌<◌, map, length, IfOk};
 ghost use Rattle.dactl_arcs.specs.Moves.{record_at};
@@ -20,6 +21,32 @@ fn owners_into(alloc: Global, pool: &ArcPool, target: u32) -> Result<Vec<u32>, A
         at = pool.next_into(arc);
     }
     Ok(owners)
+}
+
+const TARGETS: u32 = 2_000_000;
+
+const ARCS: u32 = 8_000_000;
+
+// Four arcs into each target.
+fn fill(pool: &mut ArcPool)
+    requires { targets pool.old ≡ TARGETS }
+    ensures { targets pool.new ≡ TARGETS }
+{
+    for arc in 0..ARCS {
+        let node = arc % TARGETS;
+        let _ = pool.add(node, node, true);
+    }
+}
+
+// Moves the arcs into each of the first half of the targets to one of the second, and clears their flags.
+fn move_and_clear_each(pool: &mut ArcPool)
+    requires { targets pool.old ≡ TARGETS }
+{
+    for from in 0..TARGETS / 2 {
+        let to = from + TARGETS / 2;
+        pool.move_many(&[(from, to)]);
+        pool.clear_waits(to);
+    }
 }
 
 #[test]
@@ -64,5 +91,16 @@ fn arcs_move_together_and_lose_their_flags(rt: HostRuntime) -> Result<(), Fail> 
 
     pool.clear_waits(2);
     assert!(rt; !pool.arc(0).waits);
+    Ok(())
+}
+
+// A million moves and a million clearings among eight million arcs. They end in the time that a test has
+// only because none of them looks through the pool.
+#[test]
+fn calls_touch_the_arcs_they_speak_of(rt: HostRuntime) -> Result<(), Fail> {
+    let mut pool = ArcPool::with_room(rt.alloc(), TARGETS, ARCS)?;
+    fill(&mut pool);
+    assert_eq!(rt; pool.len(), ARCS);
+    move_and_clear_each(&mut pool);
     Ok(())
 }
