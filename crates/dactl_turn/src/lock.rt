@@ -31,9 +31,7 @@ const LOOKS: u32 = 64;
 #[derive(Drop)]
 pub struct Turn<S: Booked + Drop> {
     table: Table<Option<S>, Known<S>, Snapshot<S>, InOrder, Global>,
-    ghost sizes: {
-        (table.shared.table_id.words ≡ 2) × (table.shared.table_id.slots ≡ 1)
-    },
+    ghost sizes: { (table.shared.table_id.words ≡ 2) × (table.shared.table_id.slots ≡ 1) },
 }
 
 type Place<S> = atomic_table::Seat<Option<S>, Known<S>>;
@@ -99,7 +97,10 @@ impl<S: Booked + Drop> Turn<S> {
         ensures mine { mine_of seat.new ≡ mine_of seat.old }
         ensures same { IsSame seat.old seat.new }
     {
-        let ticket = self.table.shared.fetch_add::<Draw>(&mut seat.place, TICKETS, 1);
+        let ticket = self
+            .table
+            .shared
+            .fetch_add::<Draw>(&mut seat.place, TICKETS, 1);
         self.wait_for(rt, &mut seat.place, ticket);
         let held = self.table.shared.exchange(&mut seat.place, VALUE, None);
         match held {
@@ -113,10 +114,8 @@ impl<S: Booked + Drop> Turn<S> {
         requires own { place.old.table_id ≡ self.now.table.shared.table_id }
         requires waits { WaitsWith ticket place.old.me }
         ensures own { place.new.table_id ≡ place.old.table_id }
-        ensures holds {
-            (x : S) × (gs : List Give)
-            × HasTurn S.base S.entries S.closed place.old.me ticket place.new.me x gs
-        }
+        ensures holds { (x : S) × (gs : List Give)
+            × HasTurn S.base S.entries S.closed place.old.me ticket place.new.me x gs }
     {
         let mut looks = 0;
         for _ in rt.forever() {
@@ -155,7 +154,10 @@ impl<S: Booked + Drop> Turn<S> {
         ensures same { IsSame seat.old seat.new }
     {
         let _ = entry;
-        let held = self.table.shared.exchange(&mut seat.place, VALUE, Some(value));
+        let held = self
+            .table
+            .shared
+            .exchange(&mut seat.place, VALUE, Some(value));
         drop(held);
         let given = self
             .table
@@ -197,12 +199,10 @@ impl<S: Booked + Drop> Turn<S> {
         requires maker { number_of maker ≡ 0 }
         requires joined { length (kept_of maker) + 1 ≡ made_of maker }
         ensures base { S.base result ≡ S.base (first_of self) }
-        ensures later {
-            (gs : List Give)
+        ensures later { (gs : List Give)
             × StartsWith gs (gives_of maker)
             × (S.entries result ≡ entries_of gs)
-            × (S.closed result ≡ end_of gs)
-        }
+            × (S.closed result ≡ end_of gs) }
         ensures end { or_else (closed_of maker) (S.closed result) ≡ S.closed result }
         ensures each { (k : ℕ) → by_worker k (S.entries result) ≡ kept_by k (kept_of maker) }
     {

@@ -1,5 +1,4 @@
-use Rattle.std.proofs.Common.{◌≡◌, ap, sym, ◌∙◌, Some, Option}
-use Rattle.dactl_model.specs.declared.graph.End.{End}
+use Rattle.std.proofs.Common.{◌≡◌, ap, sym, ◌∙◌}
 use Rattle.dactl_turn.specs.Gives.{by_worker, or_else}
 use Rattle.dactl_turn.proofs.Steps.{closed_with}
 use Rattle.dactl_turn.proofs.Gives.{or_else-prefix}
