@@ -4,6 +4,8 @@
 mod board;
 mod rule;
 mod ruled;
+#[cfg(test)]
+mod tests;
 
 pub use board::Board;
 pub use rule::Account;

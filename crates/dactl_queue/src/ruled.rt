@@ -42,11 +42,7 @@ impl RuledBoard {
     ghost use Rattle.dactl_queue.specs.Boards.{put_of, taken_of, room_of, hands_of, share_of, parts_of, puts_of, takes_of, HandFits, IsFresh, IsSameBoard, IsOneOf};
 
     /// A board with room for `room` nodes, and its hands, which have done nothing.
-    pub fn new(
-        alloc: Global,
-        room: u32,
-        hands: u8,
-    ) -> Result<(RuledBoard, Vec<RuledHand>), Memory>
+    pub fn new(alloc: Global, room: u32, hands: u8) -> Result<(RuledBoard, Vec<RuledHand>), Memory>
         requires room { 0 < room }
         requires hands { 0 < hands }
         ensures board { IfOk result (λ r. (room_of r.0 ≡ room) × (hands_of r.0 ≡ hands)) }
