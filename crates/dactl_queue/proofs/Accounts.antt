@@ -1,4 +1,4 @@
--- Each step keeps the rule of the board.
+-- Each step on the queue keeps the rule of the board, and what the rule tells at a moment.
 use Rattle.std.proofs.Common.{◌≡◌, ◌≢◌, ℕ, zero, suc, ◌+◌, ◌<◌, ◌≤◌, true, false, true≢false, List, [], ◌∷◌, ◌++◌, length, set, sym, refl, ap, ◌∙◌, subst, ⊎_elim, append_assoc, append-nil, length-append, arith, nat_eq, if◌then◌else◌, Option, Some, None, Result, Ok, Err, MatchOption, MatchResult}
 use Rattle.std.proofs.lemmas.List.{nil_from_length}
 use mathlib.Core.Option.{some, some-injective, some-ne-none}
@@ -9,7 +9,7 @@ use Rattle.dactl_model.specs.declared.graph.NodeId.{NodeId}
 use Rattle.dactl_queue.specs.declared.rule.Account.{Account}
 use Rattle.dactl_queue.specs.Accounts.{account, weigh, total, Balances, Fits, Balanced, IsMoment, having_put, having_taken, Puts, Takes, having_lent, joined, nothing}
 
-pub weigh-append : (h : NodeId → ℕ) (xs ys : List NodeId) → weigh h (xs ++ ys) ≡ weigh h xs + weigh h ys
+weigh-append : (h : NodeId → ℕ) (xs ys : List NodeId) → weigh h (xs ++ ys) ≡ weigh h xs + weigh h ys
 weigh-append h [] ys = omega arith
 weigh-append h (x ∷ xs) ys = omega (arith, weigh-append h xs ys)
 
@@ -30,7 +30,7 @@ total_at f (x ∷ xs) (suc i) v e = omega (arith, total_at f xs i v e)
 abbrev parts : Account → ℕ
 parts v = v.parts
 
--- two views have no more parts than all
+-- two accounts have no more parts than all
 two_at : (vs : List Account) (i j : ℕ) (v w : Account) → get_elem? vs i ≡ some v → get_elem? vs j ≡ some w → j ≢ i → v.parts + w.parts ≤ total parts vs
 two_at [] i j v w a b n = absurd (some-ne-none v (sym a))
 two_at (x ∷ xs) zero zero v w a b n = absurd (n refl)
@@ -43,54 +43,43 @@ over_set : (K : ℕ → Account → Type 0) (vs : List Account) (me : ℕ) (w : 
 over_set K vs me w mine others j d e = ⊎_elim (λ (t : (j ≡ me) × (w ≡ d)). subst (λ (x : ℕ × Account). K x.0 x.1) (λ i. (sym t.0 i, t.1 i)) mine)
     (λ (t : (j ≢ me) × (get_elem? vs j ≡ some d)). others j d t.0 t.1) (at_set vs me j w d e)
 
--- beside a view with a part none is alone
+-- beside an account with a part none is alone
 not_alone : (items : List NodeId) (vs : List Account) (r : Balanced items vs) (i j : ℕ) (v w : Account) → 0 < v.parts → get_elem? vs i ≡ some v → get_elem? vs j ≡ some w → j ≢ i → w.solo ≡ true → ⊥
 not_alone items vs r i j v w some_part a b n alone = let t = two_at vs i j v w a b n in let e = ((r.each j w b).1 alone).0 in let all = r.whole in omega arith
 
-pub begins : Balanced [] (account 256 true [] [] ∷ [])
-begins = record {
-  whole = refl;
-  even = λ h. refl;
-  each = λ j v e. only j v e;
-}
-  where
-    only : (j : ℕ) (v : Account) → get_elem? (account 256 true [] [] ∷ []) j ≡ some v → Fits [] v
-    only zero v e = subst (Fits []) (some-injective (account 256 true [] []) v e) ((λ _. (refl, refl)), λ _. (refl, refl))
-    only (suc j) v e = absurd (some-ne-none v (sym e))
-
 pub puts : (room port : ℕ) (v : Account) (x : NodeId) → 0 < v.parts → Pushes Balanced room port v x (Puts room v x)
-puts room port v x some_part items views short r at = let w : Account = having_put v x in let mine = r.each port v at in (
+puts room port v x some_part items accounts short r at = let w : Account = having_put v x in let mine = r.each port v at in (
   w,
   record {
-    whole = let t = total_set parts views port v w at in let b = r.whole in omega arith;
-    even = λ h. let s = total_set (λ (u : Account). weigh h u.put) views port v w at in let t = total_set (λ (u : Account). weigh h u.taken) views port v w at in let b = r.even h in
+    whole = let t = total_set parts accounts port v w at in let b = r.whole in omega arith;
+    even = λ h. let s = total_set (λ (u : Account). weigh h u.put) accounts port v w at in let t = total_set (λ (u : Account). weigh h u.taken) accounts port v w at in let b = r.even h in
         let a = weigh-append h v.put (x ∷ []) in let c = weigh-append h items (x ∷ []) in omega arith;
-    each = over_set (λ _ (u : Account). Fits (items ++ x ∷ []) u) views port w
+    each = over_set (λ _ (u : Account). Fits (items ++ x ∷ []) u) accounts port w
         ((λ z. absurd (omega arith)), λ alone. let m = mine.1 alone in (m.0, ap (λ (l : List NodeId). l ++ x ∷ []) m.1 ∙ append_assoc v.taken items (x ∷ [])))
-        (λ j u other e. ((r.each j u e).0, λ alone. absurd (not_alone items views r port j v u some_part at e other alone)));
+        (λ j u other e. ((r.each j u e).0, λ alone. absurd (not_alone items accounts r port j v u some_part at e other alone)));
   },
   (refl, λ alone. let m = mine.1 alone in let l : length v.put ≡ length (v.taken ++ items) = ap length m.1 in omega (arith, length-append v.taken items)),
 )
 
 pub takes : (port : ℕ) (v : Account) → 0 < v.parts → Pops Balanced port v (λ x w. Takes v x w)
-takes port v some_part x items views r at = let w : Account = having_taken v x in let mine = r.each port v at in (
+takes port v some_part x items accounts r at = let w : Account = having_taken v x in let mine = r.each port v at in (
   w,
   record {
-    whole = let t = total_set parts views port v w at in let b = r.whole in omega arith;
-    even = λ h. let s = total_set (λ (u : Account). weigh h u.put) views port v w at in let t = total_set (λ (u : Account). weigh h u.taken) views port v w at in let b = r.even h in
+    whole = let t = total_set parts accounts port v w at in let b = r.whole in omega arith;
+    even = λ h. let s = total_set (λ (u : Account). weigh h u.put) accounts port v w at in let t = total_set (λ (u : Account). weigh h u.taken) accounts port v w at in let b = r.even h in
         let a = weigh-append h v.taken (x ∷ []) in omega arith;
-    each = over_set (λ _ (u : Account). Fits items u) views port w
+    each = over_set (λ _ (u : Account). Fits items u) accounts port w
         ((λ z. absurd (omega arith)), λ alone. let m = mine.1 alone in (m.0, m.1 ∙ sym (append_assoc v.taken (x ∷ []) items)))
-        (λ j u other e. ((r.each j u e).0, λ alone. absurd (not_alone (x ∷ items) views r port j v u some_part at e other alone)));
+        (λ j u other e. ((r.each j u e).0, λ alone. absurd (not_alone (x ∷ items) accounts r port j v u some_part at e other alone)));
   },
   (refl, λ alone. (items, (mine.1 alone).1)),
 )
 
 -- what the rule says is so at that moment
 pub knows : (port : ℕ) (v : Account) → Learns Balanced port v (IsMoment v)
-knows port v items views r at = record { accounts = views; port = port; at = at; balanced = r }
+knows port v items accounts r at = record { accounts = accounts; port = port; at = at; balanced = r }
 
-pub moment_alone : (v : Account) (items : List NodeId) → IsMoment v items → v.solo ≡ true → v.put ≡ v.taken ++ items
+moment_alone : (v : Account) (items : List NodeId) → IsMoment v items → v.solo ≡ true → v.put ≡ v.taken ++ items
 moment_alone v items now alone = ((now.balanced.each now.port v now.at).1 alone).1
 
 -- of one that is alone, what an answer of a take says
@@ -115,7 +104,7 @@ total_alone f [] i v e none_other = absurd (some-ne-none v (sym e))
 total_alone f (x ∷ xs) zero v e none_other = let q : f x ≡ f v = ap f (some-injective x v e) in let z = total_none f xs (λ j u b. none_other (suc j) u (λ h. omega arith) b) in omega arith
 total_alone f (x ∷ xs) (suc i) v e none_other = let z = none_other 0 x (λ h. omega arith) refl in omega (arith, total_alone f xs i v e (λ j u n b. none_other (suc j) u (λ h. n (omega arith)) b))
 
-pub all_parts : (items : List NodeId) (vs : List Account) (r : Balanced items vs) (i j : ℕ) (v w : Account) → v.parts ≡ 256 → get_elem? vs i ≡ some v → get_elem? vs j ≡ some w → j ≢ i → (w.put ≡ []) × (w.taken ≡ [])
+all_parts : (items : List NodeId) (vs : List Account) (r : Balanced items vs) (i j : ℕ) (v w : Account) → v.parts ≡ 256 → get_elem? vs i ≡ some v → get_elem? vs j ≡ some w → j ≢ i → (w.put ≡ []) × (w.taken ≡ [])
 all_parts items vs r i j v w all a b n = let t = two_at vs i j v w a b n in let e = r.whole in (r.each j w b).0 (omega arith)
 
 -- an account with all parts knows the whole
@@ -124,35 +113,35 @@ moment_whole v items now all h = let r = now.balanced in let others = all_parts 
     let s = total_alone (λ (u : Account). weigh h u.put) now.accounts now.port v now.at (λ j u n e. ap (weigh h) (others j v u all now.at e n).0) in
     let t = total_alone (λ (u : Account). weigh h u.taken) now.accounts now.port v now.at (λ j u n e. ap (weigh h) (others j v u all now.at e n).1) in omega arith
 
-module _ (items : List NodeId) (views : List Account) (r : Balanced items views) (port : ℕ) (v : Account) (at : get_elem? views port ≡ some v) where
-  -- a view is cut in two, which have its parts and what it put and took
+module _ (items : List NodeId) (accounts : List Account) (r : Balanced items accounts) (port : ℕ) (v : Account) (at : get_elem? accounts port ≡ some v) where
+  -- an account is cut in two, which have its parts and what it put and took
   cut : (left right : Account) → left.parts + right.parts ≡ v.parts → ((h : NodeId → ℕ) → weigh h left.put + weigh h right.put ≡ weigh h v.put) → ((h : NodeId → ℕ) → weigh h left.taken + weigh h right.taken ≡ weigh h v.taken)
-      → Fits items left → Fits items right → Balanced items (set views port left ++ right ∷ [])
+      → Fits items left → Fits items right → Balanced items (set accounts port left ++ right ∷ [])
   cut left right same put taken a b = record {
-    whole = let t = total_set parts views port v left at in let s = total_snoc parts (set views port left) right in let w = r.whole in omega arith;
-    even = λ h. let t = total_set (λ (u : Account). weigh h u.put) views port v left at in let s = total_snoc (λ (u : Account). weigh h u.put) (set views port left) right in
-        let t2 = total_set (λ (u : Account). weigh h u.taken) views port v left at in let s2 = total_snoc (λ (u : Account). weigh h u.taken) (set views port left) right in
+    whole = let t = total_set parts accounts port v left at in let s = total_snoc parts (set accounts port left) right in let w = r.whole in omega arith;
+    even = λ h. let t = total_set (λ (u : Account). weigh h u.put) accounts port v left at in let s = total_snoc (λ (u : Account). weigh h u.put) (set accounts port left) right in
+        let t2 = total_set (λ (u : Account). weigh h u.taken) accounts port v left at in let s2 = total_snoc (λ (u : Account). weigh h u.taken) (set accounts port left) right in
         let w = r.even h in let p = put h in let q = taken h in omega arith;
-    each = λ j u e. ⊎_elim (λ x. over_set (λ _ (u : Account). Fits items u) views port left a (λ j u _ e. r.each j u e) j u x) (λ (is : right ≡ u). subst (Fits items) is b) (at_snoc (set views port left) right u j e);
+    each = λ j u e. ⊎_elim (λ x. over_set (λ _ (u : Account). Fits items u) accounts port left a (λ j u _ e. r.each j u e) j u x) (λ (is : right ≡ u). subst (Fits items) is b) (at_snoc (set accounts port left) right u j e);
   }
 
 pub lends_one : (port : ℕ) (v : Account) → 0 < v.parts → v.put ≡ [] → v.taken ≡ [] → Forks Balanced port v (having_lent v) (account 1 false [] [])
-lends_one port v some_part put taken items views r at = cut items views r port v at (having_lent v) (account 1 false [] []) (omega arith) (λ h. omega arith) (λ h. omega arith)
+lends_one port v some_part put taken items accounts r at = cut items accounts r port v at (having_lent v) (account 1 false [] []) (omega arith) (λ h. omega arith) (λ h. omega arith)
     ((λ _. (put, taken)), λ h. absurd (true≢false (sym h))) ((λ z. absurd (omega arith)), λ h. absurd (true≢false (sym h)))
 
 pub lends_all : (port : ℕ) (v : Account) → Forks Balanced port v nothing v
-lends_all port v items views r at = cut items views r port v at nothing v (omega arith) (λ h. omega arith) (λ h. omega arith) ((λ _. (refl, refl)), λ h. absurd (true≢false (sym h))) (r.each port v at)
+lends_all port v items accounts r at = cut items accounts r port v at nothing v (omega arith) (λ h. omega arith) (λ h. omega arith) ((λ _. (refl, refl)), λ h. absurd (true≢false (sym h))) (r.each port v at)
 
 pub merges : (port : ℕ) (v : Account) (other : ℕ) (w : Account) → Merges Balanced port v other w (joined v w) nothing
-merges port v other w items views r at apart there = let both : Account = joined v w in let vs : List Account = set views port both in
-    let was : get_elem? views other ≡ some w = ⊎_elim (λ x. absurd (apart x.0)) (λ x. x.1) (at_set views port other both w there) in
+merges port v other w items accounts r at apart there = let both : Account = joined v w in let vs : List Account = set accounts port both in
+    let was : get_elem? accounts other ≡ some w = ⊎_elim (λ x. absurd (apart x.0)) (λ x. x.1) (at_set accounts port other both w there) in
     let mine = r.each port v at in let its = r.each other w was in record {
-      whole = let t = total_set parts views port v both at in let s = total_set parts vs other w nothing there in let b = r.whole in omega arith;
-      even = λ h. let t = total_set (λ (u : Account). weigh h u.put) views port v both at in let s = total_set (λ (u : Account). weigh h u.put) vs other w nothing there in
-          let t2 = total_set (λ (u : Account). weigh h u.taken) views port v both at in let s2 = total_set (λ (u : Account). weigh h u.taken) vs other w nothing there in
+      whole = let t = total_set parts accounts port v both at in let s = total_set parts vs other w nothing there in let b = r.whole in omega arith;
+      even = λ h. let t = total_set (λ (u : Account). weigh h u.put) accounts port v both at in let s = total_set (λ (u : Account). weigh h u.put) vs other w nothing there in
+          let t2 = total_set (λ (u : Account). weigh h u.taken) accounts port v both at in let s2 = total_set (λ (u : Account). weigh h u.taken) vs other w nothing there in
           let b = r.even h in let a = weigh-append h v.put w.put in let c = weigh-append h v.taken w.taken in omega arith;
       each = over_set (λ _ (u : Account). Fits items u) vs other nothing ((λ _. (refl, refl)), λ h. absurd (true≢false (sym h)))
-          (λ j u _ e. over_set (λ _ (u : Account). Fits items u) views port both
+          (λ j u _ e. over_set (λ _ (u : Account). Fits items u) accounts port both
           ((λ z. let a = mine.0 (omega arith) in let b = its.0 (omega arith) in ((λ i. a.0 i ++ b.0 i), λ i. a.1 i ++ b.1 i)), λ h. absurd (true≢false (sym h)))
           (λ j u _ e. r.each j u e) j u e);
     }
