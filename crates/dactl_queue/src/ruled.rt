@@ -80,7 +80,8 @@ impl RuledBoard {
         requires dealt { dealt.old.items ≡ [] }
         ensures maker { IfOk result (λ _. IsPassOf queue.now maker.new) }
         ensures parts { IfOk result (λ _. (view maker.new).parts + hands ≡ 256) }
-        ensures none { IfOk result (λ _. ((view maker.new).put ≡ []) × ((view maker.new).taken ≡ [])) }
+        ensures put { IfOk result (λ _. (view maker.new).put ≡ []) }
+        ensures taken { IfOk result (λ _. (view maker.new).taken ≡ []) }
         ensures count { IfOk result (λ _. vec_len dealt.new ≡ hands) }
         ensures each { IfOk result (λ _. All (IsOneOf queue.now) dealt.new.items) }
     {
@@ -106,7 +107,9 @@ impl RuledBoard {
     /// The number of nodes left, once every hand is given back.
     pub fn close<R: Wait>(self, rt: &R) -> u64
         requires { parts_of self ≡ 256 }
-        ensures { (left : List NodeId) × (length left ≡ result) × Balances (puts_of self) (takes_of self) left }
+        ensures { (left : List NodeId)
+            × (length left ≡ result)
+            × Balances (puts_of self) (takes_of self) left }
     {
         let RuledBoard {
             queue,
@@ -136,7 +139,8 @@ impl RuledHand {
         ensures queue { IsSamePass pass.old pass.new }
         ensures rule { MatchResult result
             (λ _. Puts J.room (view pass.old) node (view pass.new))
-            (λ x. (x ≡ node) × (view pass.new ≡ view pass.old) × Held J.room (IsMoment (view pass.old))) }
+            (λ x. (x ≡ node) × (view pass.new ≡ view pass.old)
+            × Held J.room (IsMoment (view pass.old))) }
     {
         queue.push_as::<Put<J>, R>(rt, pass, node)
     }

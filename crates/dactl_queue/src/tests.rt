@@ -136,14 +136,16 @@ fn in_four<R: Threads + Wait + Sync>(
             requires fits { HandFits board.now first.hand × HandFits board.now second.hand }
             requires none { (back_of first.hand ≡ 0) × (back_of second.hand ≡ 0) }
             requires first { (first.first ≤ 10000) × (second.first ≤ 10000) }
-            ensures { HandFits board.entry.now result.0.hand × HandFits board.entry.now result.1.hand }
+            ensures front { HandFits board.entry.now result.0.hand }
+            ensures rear { HandFits board.entry.now result.1.hand }
         { in_two(rt, board, first, second) },
         || -> (Worker<RuledHand>, Worker<RuledHand>)
             requires sync { IsSync R.row }
             requires fits { HandFits board.now third.hand × HandFits board.now fourth.hand }
             requires none { (back_of third.hand ≡ 0) × (back_of fourth.hand ≡ 0) }
             requires first { (third.first ≤ 10000) × (fourth.first ≤ 10000) }
-            ensures { HandFits board.entry.now result.0.hand × HandFits board.entry.now result.1.hand }
+            ensures front { HandFits board.entry.now result.0.hand }
+            ensures rear { HandFits board.entry.now result.1.hand }
         { in_two(rt, board, third, fourth) },
     )
 }

@@ -17,7 +17,7 @@ use Rattle.dactl_turn.specs.declared.rule.Known.{Known}
 use Rattle.dactl_turn.specs.Gives.{listed, entries_of, or_else, end_of, by_worker, kept_by, StartsWith, entry_added, give}
 use Rattle.dactl_turn.specs.Views.{word_of, one_if_some, one_if_false, ticket_count, spent_count, waiting, spent_views, first_view, new_view, having_split, spent_view, having_joined, having_drawn, having_taken, having_given}
 use Rattle.dactl_turn.specs.Rule.{Base, Stands, Fits, FitsSpent, NoneHolds, OneHolds, SlotFits, IsMaker, Ordered}
-use Rattle.dactl_turn.specs.Steps.{Draws, Looks, PutsBack, MayGive}
+use Rattle.dactl_turn.specs.Steps.{Draws, HasTurn, Looks, PutsBack, MayGive}
 use Rattle.dactl_turn.proofs.Views.{not_true, live_or, total_set, total_snoc, total_most, at_inside, at_end, some_in, others_spent, only_one}
 use Rattle.dactl_turn.proofs.Gives.{entries_of-snoc, end_of-snoc, by_worker-append, by_worker-prefix, by_worker-other, starts_with_append, entry_added_lem, longer_whole, either_longer}
 
@@ -27,7 +27,7 @@ ask_most v = elim v.ticket as (λ t. one_if_some t ≤ 1) [ Some t ↦ omega ari
 in_hand : {S : Type 0} (y z : S) → (let hand : List (ℕ × Option S) = (0, Some y) ∷ [] in hand) ≡ (0, Some z) ∷ [] → y ≡ z
 in_hand {S} y z e = let p : (let at : ℕ × Option S = (0, Some y) in at) ≡ (0, Some z) = cc in let q : Some y ≡ Some z = ap (λ (x : ℕ × Option S). x.1) p in cc
 
-pub first_in_hand : {S : Type 0} (a b : Option S) (l m : List (ℕ × Option S)) → (let hand : List (ℕ × Option S) = (0, a) ∷ l in hand) ≡ (0, b) ∷ m → a ≡ b
+first_in_hand : {S : Type 0} (a b : Option S) (l m : List (ℕ × Option S)) → (let hand : List (ℕ × Option S) = (0, a) ∷ l in hand) ≡ (0, b) ∷ m → a ≡ b
 first_in_hand {S} a b l m e = let p : (let at : ℕ × Option S = (0, a) in at) ≡ (0, b) = cc in ap (λ (x : ℕ × Option S). x.1) p
 
 pub rest_same : {A : Type 0} (k : ℕ) (a : A) (l m : List (ℕ × A)) → m ≡ (k, a) ∷ l → m ≡ (k, a) ∷ rest m
@@ -397,8 +397,19 @@ module _ {S : Type 0} (base : S → Base) (entries : S → List Entry) (closed :
       (λ (h : (s.homes ≡ none ∷ []) × OneHolds base entries closed s.views). let o = h.1 in let q = none_holds o.0 o.1 o.2 in let p = o.3 in absurd (cc))
       r.slot
 
-  -- what lies in slot 0 when all seats are joined
-  pub closed_with : (ws : List ℕ) (xs : List (Option S)) (id : ℕ) (v : View) → Final (Seen Rule id v) ws xs → v.live ≡ true → v.number ≡ 0 → v.holds ≡ false → length v.kept + 1 ≡ v.made → (y : Option S) → get_elem? xs 0 ≡ some y
-      → (x : S) × (gs : List Give) × (y ≡ Some x) × StandsNow gs x × StartsWith gs v.gives × ((k : ℕ) → by_worker k (entries_of gs) ≡ kept_by k v.kept)
-  closed_with ws xs id v last live zeroth idle all y at = let t = closes last.0 id v last.1 live zeroth idle all in
-      (t.0, t.1, some-injective y (Some t.0) (sym at ∙ last.4 0 (Some t.0) t.2), t.3, t.4, t.5)
+  -- the value that comes out of slot 0 when all seats are joined
+  pub closed_value : (ws : List ℕ) (xs : List (Option S)) (id : ℕ) (v : View) → Final (Seen Rule id v) ws xs → v.live ≡ true → v.number ≡ 0 → v.holds ≡ false → length v.kept + 1 ≡ v.made → (y : Option S) → get_elem? xs 0 ≡ some y
+      → (x : S) → y ≡ Some x → (gs : List Give) × StandsNow gs x × StartsWith gs v.gives × ((k : ℕ) → by_worker k (entries_of gs) ≡ kept_by k v.kept)
+  closed_value ws xs id v last live zeroth idle all y at x is = let t = closes last.0 id v last.1 live zeroth idle all in
+      let same : Some t.0 ≡ Some x = sym (some-injective y (Some t.0) (sym at ∙ last.4 0 (Some t.0) t.2)) ∙ is in let q : t.0 ≡ x = cc in
+      (t.1, subst (StandsNow t.1) q t.3, t.4, t.5)
+
+  -- there is such a value
+  pub closed_some : (ws : List ℕ) (xs : List (Option S)) (id : ℕ) (v : View) → Final (Seen Rule id v) ws xs → v.live ≡ true → v.number ≡ 0 → v.holds ≡ false → length v.kept + 1 ≡ v.made → (y : Option S) → get_elem? xs 0 ≡ some y → y ≡ None → ⊥
+  closed_some ws xs id v last live zeroth idle all y at none_there = let t = closes last.0 id v last.1 live zeroth idle all in
+      let q : y ≡ Some t.0 = some-injective y (Some t.0) (sym at ∙ last.4 0 (Some t.0) t.2) in absurd (cc)
+
+  -- the value that comes out of the slot that the holder found
+  pub taken_value : (m n : Sitter) (t : ℕ) (x : S) (gs : List Give) → HasTurn base entries closed m t n x gs → m.0.origin ≡ Some origin → (y : Option S) → n.1 ≡ (0, y) ∷ rest n.1 → (z : S) → y ≡ Some z → StandsNow n.0.gives z
+  taken_value m n t x gs has from y hand z is = let found : Some x ≡ y = first_in_hand _ _ _ _ (sym (ap (λ (o : Sitter). o.1) has.4) ∙ hand) in let same : x ≡ z = cc in
+      subst (λ (o : List Give × S). StandsNow o.0 o.1) (λ i. (ap (λ (o : Sitter). o.0.gives) (sym has.4) i, same i)) (has.1 origin from)

@@ -109,7 +109,8 @@ impl<S: Booked + Drop> Turn<S> {
         }
     }
 
-    /// Looks until the turn is the ticket's. Before it sleeps it lets other threads run for a while.
+    /// Looks until the turn is the ticket's. Between looks it lets other threads run, and after many
+    /// it sleeps.
     fn wait_for<R: Wait>(&self, rt: &R, place: &mut Place<S>, ticket: u64)
         requires own { place.old.table_id ≡ self.now.table.shared.table_id }
         requires waits { WaitsWith ticket place.old.me }
