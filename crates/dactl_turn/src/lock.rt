@@ -84,7 +84,8 @@ impl<S: Booked + Drop> Turn<S> {
         }
     }
 
-    /// Waits for the turn and takes the value out. The seat has then seen all gives.
+    /// Waits for the turn and takes the value out. The seat has then seen all gives. Until it gives
+    /// the value back, all other seats wait.
     pub fn take<R: Wait>(&self, rt: &R, seat: &mut Seat<S>) -> S
         requires own { IsSeatOf self.now seat.old }
         requires idle { IsIdle seat.old }
@@ -154,6 +155,7 @@ impl<S: Booked + Drop> Turn<S> {
         ensures seen { gives_of seat.new ≡ gives_of seat.old ++ give entry (S.closed value) ∷ [] }
         ensures same { IsSame seat.old seat.new }
     {
+        // The value has the entry already: the parameter tells what is new in it.
         let _ = entry;
         let held = self
             .table
