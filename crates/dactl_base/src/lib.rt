@@ -2,4 +2,11 @@
 //! name them, and the decimal texts of numbers.
 #![tactic(auto)]
 
+pub mod adapters;
+pub mod digits;
+pub mod memory;
 pub mod refusal;
+pub mod sink;
+pub mod source;
+#[cfg(test)]
+mod tests;

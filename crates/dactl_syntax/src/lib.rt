@@ -1,0 +1,4 @@
+//! From a text to what it says.
+#![tactic(auto)]
+
+pub mod first;
