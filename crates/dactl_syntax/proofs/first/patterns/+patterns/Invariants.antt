@@ -1,4 +1,4 @@
-use Rattle.std.proofs.Common.{ℕ, ◌+◌, ◌*◌}
+use Rattle.std.proofs.Common.{◌+◌, ◌*◌}
 use Rattle.dactl_syntax.proofs.first.patterns.+patterns.Given as goal
 
 abbrev pub decreases-arguments : goal.decreases-arguments
