@@ -1,0 +1,9 @@
+pub mod Same
+pub mod Fronts
+pub mod Exact
+pub mod Grows
+pub mod Loop
+pub mod Bounded
+pub mod Answered
+pub mod Exclusive
+pub mod Clauses

@@ -1,0 +1,11 @@
+pub mod Sorts
+pub mod Fits
+pub mod TermLaws
+pub mod PatternLaws
+pub mod RuleLaws
+pub mod ModuleLaws
+pub mod PatternSteps
+pub mod Steps
+pub mod TermGrowth
+pub mod TextGrowth
+pub mod Answered

@@ -1,0 +1,45 @@
+-- What the loops and the steps over brackets cite.
+use Rattle.std.proofs.Common.{◌≡◌, ℕ, zero, suc, ◌+◌, ◌-◌, ◌<◌, List, ◌++◌, length, Ok, refl, ap, ◌∙◌, arith}
+use Rattle.std.proofs.lemmas.List.{length-map}
+use Rattle.dactl_syntax.specs.declared.token.Sort.TheVariants as s
+use Rattle.dactl_syntax.specs.declared.token.Terminal.{Terminal}
+use Rattle.dactl_syntax.specs.Sort.{starts_arg}
+use Rattle.dactl_grammar.specs.Reader.{read_many}
+use Rattle.dactl_syntax.specs.Productions.{Tok, arg, args}
+use Rattle.dactl_syntax.specs.Reading.{Reads, by, read_behind, read_before, read_sign, arg_at, args_at}
+use Rattle.dactl_syntax.specs.Seen.{seen, toks}
+use Rattle.dactl_syntax.proofs.Fits.{Fit, fit_sign, solid_sign, shrinks}
+use Rattle.dactl_syntax.proofs.TermLaws.{fit_arg, solid_arg, fit_args, solid_args, goes_on_term}
+use Rattle.dactl_grammar.proofs.Loop.{Shrinks}
+
+pub fit_arg_at : (n : ℕ) → Fit (arg (args n)) (arg_at n) starts_arg goes_on_term
+unfolding arg_at
+fit_arg_at n = fit_arg (args n) (args_at n) (fit_args n) (solid_args n)
+
+pub arg_shrinks : (n : ℕ) → Shrinks (arg_at n)
+arg_shrinks n = shrinks (fit_arg_at n) (solid_arg (args n) (args_at n) (fit_args n) (solid_args n))
+
+pub hash_shrinks : Shrinks (read_sign s.Hash)
+hash_shrinks = shrinks (fit_sign s.Hash) (solid_sign s.Hash)
+
+-- what is left behind a part is less
+pub less_left : {A : Type 0} (R : Reads A) → Shrinks R → (text : List ℕ) (l r : List Terminal) (a : A) → R (toks text l) ≡ Ok (a, toks text r) → length r < length l
+less_left R h text l r a e =
+    let lt = h (toks text l) a (toks text r) e in
+    let len_l = length-map l (seen text) in
+    let len_r = length-map r (seen text) in
+    omega arith
+
+pub one_left : (text : List ℕ) (l r : List Terminal) (t : Tok) → read_sign s.Hash (toks text l) ≡ Ok (t, toks text r) → length r + 1 ≡ length l
+one_left text l r t e =
+    let k = (fit_sign s.Hash).exact.sound (toks text l) t (toks text r) e in
+    let len = ap length (k.parts ∙ ap (λ (u : List Tok). u ++ toks text r) k.whole.0) in
+    let len_l = length-map l (seen text) in
+    let len_r = length-map r (seen text) in
+    omega arith
+
+-- brackets may still be opened
+pub args_step : (n : ℕ) → 0 < n → (l : List Tok) → args_at n l ≡ read_behind s.Open (read_before (read_many (by starts_arg) (arg_at (n - 1))) s.Close) l
+unfolding args_at arg_at
+args_step zero h l = absurd (omega arith)
+args_step (suc n) h l = let e : suc n - 1 ≡ n = omega arith in rw e refl

@@ -1,0 +1,6 @@
+pub mod Sort
+pub mod Productions
+pub mod Seen
+pub mod Answer
+pub mod Reading
+pub mod Laws

@@ -1,0 +1,249 @@
+-- What reading each part of the grammar gives.
+use Rattle.std.specs.Prelude.{ℕ, zero, suc, ◌-◌, drop, Bool, false, ◌&&◌, List, [], ◌∷◌, length, Option, is_some}
+use Rattle.dactl_syntax.specs.declared.token.Sort.{Sort}
+use Rattle.dactl_syntax.specs.declared.token.Sort.TheVariants as s
+use Rattle.dactl_syntax.specs.declared.tree.Name.{Name}
+use Rattle.dactl_syntax.specs.declared.tree.Marks.{Marks}
+use Rattle.dactl_syntax.specs.declared.tree.NodeTree.{NodeTree}
+use Rattle.dactl_syntax.specs.declared.tree.TermTree.{TermTree}
+use Rattle.dactl_syntax.specs.declared.tree.ArgTree.{ArgTree}
+use Rattle.dactl_syntax.specs.declared.tree.Part.{Part}
+use Rattle.dactl_syntax.specs.declared.tree.PatternTree.{PatternTree}
+use Rattle.dactl_syntax.specs.declared.tree.Sign.{Sign}
+use Rattle.dactl_syntax.specs.declared.tree.RuleTree.{RuleTree}
+use Rattle.dactl_syntax.specs.declared.tree.Group.{Group}
+use Rattle.dactl_syntax.specs.declared.tree.Item.{Item}
+use Rattle.dactl_syntax.specs.declared.tree.Module.{Module}
+use Rattle.dactl_base.specs.declared.refusal.Kind.{Kind}
+use Rattle.dactl_base.specs.declared.refusal.Kind.TheVariants as kinds
+use Rattle.dactl_base.specs.declared.refusal.Refusal.{Refusal}
+use Rattle.dactl_grammar.specs.declared.fault.Fault.{Fault}
+use Rattle.dactl_grammar.specs.declared.fault.Fault.TheVariants as faults
+use Rattle.dactl_syntax.specs.Answer.{next_place}
+use Rattle.dactl_syntax.specs.Sort.{same_sort, starts_mark, starts_arg, starts_piece, is_sign, is_class, starts_item}
+use Rattle.dactl_grammar.specs.Reader.{Reader, head_is, read_one, read_row, read_as, read_choice, read_maybe, read_many, read_barred, read_placed, fault_left}
+use Rattle.dactl_syntax.specs.Productions.{ClassHere, Tok, is, name_of, star_of, hashes_of, integer_of, sym_of, named_of, bare_of, term_of, arg_of, part_term, part_redirect, any_of, int_of, number_of, pattern_sym_of, piece_of, plus_of, minus_of, chain_of, rewrites_of, redirects_of, rule_of, group_of, imports_of, class_at, symbols_of, pattern_named_of, rules_of, initial_of, is_name, module_of}
+
+abbrev pub Reads : Type 0 → Type 0
+Reads A = Reader Tok A
+
+-- the next token's sort passes
+abbrev pub by : (Sort → Bool) → Tok → Bool
+by f t = f t.sort
+
+abbrev pub read_sign : Sort → Reads Tok
+read_sign k = read_one (is k)
+
+abbrev pub read_pair : {A B : Type 0} → Reads A → Reads B → Reads (A × B)
+read_pair R S = read_row R (λ _. S)
+
+abbrev pub read_behind : {A : Type 0} → Sort → Reads A → Reads A
+read_behind k R = read_as (λ v. v.1) (read_pair (read_sign k) R)
+
+abbrev pub read_before : {A : Type 0} → Reads A → Sort → Reads A
+read_before R k = read_as (λ v. v.0) (read_pair R (read_sign k))
+
+abbrev pub read_listed : {A : Type 0} → (Sort → Bool) → Reads A → Reads A → Reads (List A)
+read_listed f R S = read_as (λ v. v.0 ∷ v.1) (read_pair R (read_many (by f) S))
+
+unfoldable pub upper_at : Reads Name
+upper_at = read_as name_of (read_sign s.Upper)
+
+unfoldable pub lower_at : Reads Name
+lower_at = read_as name_of (read_sign s.Lower)
+
+-- ---- terms
+
+unfoldable pub hashes_at : Reads ℕ
+hashes_at = read_as length (read_many (by (same_sort s.Hash)) (read_sign s.Hash))
+
+unfoldable pub mark_at : Reads Marks
+mark_at = read_choice (head_is (by (same_sort s.Star))) (read_as star_of (read_sign s.Star)) (read_as hashes_of (read_pair (read_sign s.Hash) hashes_at))
+
+abbrev pub read_node : Reads (List ArgTree) → Reads NodeTree
+read_node args = read_choice (head_is (by (same_sort s.Integer))) (read_as integer_of (read_sign s.Integer)) (read_as sym_of (read_pair upper_at (read_maybe (by (same_sort s.Open)) args)))
+
+abbrev pub read_body : Reads (List ArgTree) → Reads (Option Name × Option NodeTree)
+read_body args = read_choice (head_is (by (same_sort s.Lower))) (read_as named_of (read_pair lower_at (read_maybe (by (same_sort s.Colon)) (read_behind s.Colon (read_node args))))) (read_as bare_of (read_node args))
+
+abbrev pub read_term : Reads (List ArgTree) → Reads TermTree
+read_term args = read_as term_of (read_pair (read_maybe (by starts_mark) mark_at) (read_body args))
+
+abbrev pub read_arg : Reads (List ArgTree) → Reads ArgTree
+read_arg args = read_as arg_of (read_pair (read_maybe (by (same_sort s.Wait)) (read_sign s.Wait)) (read_term args))
+
+unfoldable pub args_at : ℕ → Reads (List ArgTree)
+args_at zero = read_barred (is s.Open)
+args_at (suc n) = read_behind s.Open (read_before (read_many (by starts_arg) (read_arg (args_at n))) s.Close)
+
+unfoldable pub node_at : ℕ → Reads NodeTree
+node_at n = read_node (args_at n)
+
+unfoldable pub body_at : ℕ → Reads (Option Name × Option NodeTree)
+body_at n = read_body (args_at n)
+
+unfoldable pub term_at : ℕ → Reads TermTree
+term_at n = read_term (args_at n)
+
+unfoldable pub arg_at : ℕ → Reads ArgTree
+arg_at n = read_arg (args_at n)
+
+-- ---- patterns
+
+abbrev pub read_base : Reads (List PatternTree) → Reads PatternTree → Reads PatternTree
+read_base square round =
+    read_choice (head_is (by (same_sort s.Any))) (read_as any_of (read_sign s.Any))
+    (read_choice (head_is (by (same_sort s.Int))) (read_as int_of (read_sign s.Int))
+    (read_choice (head_is (by (same_sort s.Integer))) (read_as number_of (read_sign s.Integer))
+    (read_choice (head_is (by (same_sort s.Upper))) (read_as pattern_sym_of (read_pair upper_at (read_maybe (by (same_sort s.Open)) square))) round)))
+
+abbrev pub read_piece : Reads (List PatternTree) → Reads PatternTree → Reads PatternTree
+read_piece square round = read_choice (head_is (by (same_sort s.Lower))) (read_as piece_of (read_pair lower_at (read_maybe (by (same_sort s.Colon)) (read_behind s.Colon (read_base square round))))) (read_base square round)
+
+unfoldable pub operator_at : Reads Sign
+operator_at = read_choice (head_is (by (same_sort s.Plus))) (read_as plus_of (read_sign s.Plus)) (read_as minus_of (read_sign s.Minus))
+
+abbrev pub read_pattern : Reads (List PatternTree) → Reads PatternTree → Reads PatternTree
+read_pattern square round = read_as chain_of (read_pair (read_piece square round) (read_many (by is_sign) (read_pair operator_at (read_piece square round))))
+
+unfoldable mutual
+  pub squares_at : ℕ → Reads (List PatternTree)
+  squares_at zero = read_barred (is s.Open)
+  squares_at (suc n) = read_behind s.Open (read_before (read_many (by starts_piece) (read_piece (squares_at n) (rounds_at n))) s.Close)
+
+  pub rounds_at : ℕ → Reads PatternTree
+  rounds_at zero = read_barred (is s.Left)
+  rounds_at (suc n) = read_behind s.Left (read_before (read_pattern (squares_at n) (rounds_at n)) s.Right)
+
+unfoldable pub base_at : ℕ → Reads PatternTree
+base_at n = read_base (squares_at n) (rounds_at n)
+
+unfoldable pub piece_reads : ℕ → Reads PatternTree
+piece_reads n = read_piece (squares_at n) (rounds_at n)
+
+unfoldable pub pieces_at : ℕ → Reads (List PatternTree)
+pieces_at n = read_many (by starts_piece) (piece_reads n)
+
+unfoldable pub link_at : ℕ → Reads (Sign × PatternTree)
+link_at n = read_pair operator_at (piece_reads n)
+
+unfoldable pub links_at : ℕ → Reads (List (Sign × PatternTree))
+links_at n = read_many (by is_sign) (link_at n)
+
+unfoldable pub pattern_at : ℕ → Reads PatternTree
+pattern_at n = read_pattern (squares_at n) (rounds_at n)
+
+-- ---- rules
+
+abbrev pub redirects : List Tok → Bool
+redirects [] = false
+redirects (t ∷ []) = false
+redirects (t ∷ u ∷ l) = is s.Lower t && is s.Becomes u
+
+unfoldable pub part_at : ℕ → Reads Part
+part_at n = read_choice redirects (read_as part_redirect (read_pair lower_at (read_behind s.Becomes (term_at n)))) (read_as part_term (term_at n))
+
+unfoldable pub plain_at : ℕ → Reads Part
+plain_at n = read_as part_term (term_at n)
+
+unfoldable pub comma_part_at : ℕ → Reads Part
+comma_part_at n = read_behind s.Comma (part_at n)
+
+unfoldable pub plain_parts_at : ℕ → Reads (List Part)
+plain_parts_at n = read_listed (same_sort s.Comma) (plain_at n) (comma_part_at n)
+
+unfoldable pub parts_at : ℕ → Reads (List Part)
+parts_at n = read_listed (same_sort s.Comma) (part_at n) (comma_part_at n)
+
+unfoldable pub rewriting_at : ℕ → Reads (Bool × List Part)
+rewriting_at n = read_as rewrites_of (read_behind s.Rewrites (plain_parts_at n))
+
+unfoldable pub redirecting_at : ℕ → Reads (Bool × List Part)
+redirecting_at n = read_as redirects_of (read_behind s.Arrow (parts_at n))
+
+unfoldable pub right_side_at : ℕ → Reads (Bool × List Part)
+right_side_at n = read_choice (head_is (by (same_sort s.Rewrites))) (rewriting_at n) (redirecting_at n)
+
+unfoldable pub rule_at : ℕ → Reads RuleTree
+rule_at n = read_as rule_of (read_placed (λ t. t.place) (read_pair (pattern_at n) (right_side_at n)))
+
+unfoldable pub bar_rule_at : ℕ → Reads RuleTree
+bar_rule_at n = read_behind s.Bar (rule_at n)
+
+unfoldable pub rule_list_at : ℕ → Reads (List RuleTree)
+rule_list_at n = read_listed (same_sort s.Bar) (rule_at n) (bar_rule_at n)
+
+unfoldable pub group_at : ℕ → Reads Group
+group_at n = read_as group_of (read_before (rule_list_at n) s.Semicolon)
+
+unfoldable pub groups_at : ℕ → Reads (List Group)
+groups_at n = read_listed starts_piece (group_at n) (group_at n)
+
+-- ---- items
+
+unfoldable pub comma_upper_at : Reads Name
+comma_upper_at = read_behind s.Comma upper_at
+
+unfoldable pub names_at : Reads (List Name)
+names_at = read_listed (same_sort s.Comma) upper_at comma_upper_at
+
+unfoldable pub imports_at : Reads Item
+imports_at = read_as imports_of (read_behind s.Imports (read_before names_at s.Semicolon))
+
+unfoldable pub class_reads : Reads ClassHere
+class_reads = read_as class_at (read_one (by is_class))
+
+unfoldable pub public_class_at : Reads (Option ClassHere)
+public_class_at = read_maybe (by (same_sort s.Public)) (read_behind s.Public class_reads)
+
+unfoldable pub symbols_at : Reads Item
+symbols_at = read_as symbols_of (read_behind s.Symbol (read_pair class_reads (read_pair public_class_at (read_before names_at s.Semicolon))))
+
+unfoldable pub public_at : Reads Bool
+public_at = read_as is_some (read_maybe (by (same_sort s.Public)) (read_sign s.Public))
+
+unfoldable pub named_at : ℕ → Reads Item
+named_at n = read_as pattern_named_of (read_behind s.Pattern (read_pair public_at (read_pair upper_at (read_behind s.Equals (read_before (pattern_at n) s.Semicolon)))))
+
+unfoldable pub rules_at : ℕ → Reads Item
+rules_at n = read_as rules_of (read_behind s.Rule (groups_at n))
+
+unfoldable pub comma_term_at : ℕ → Reads TermTree
+comma_term_at n = read_behind s.Comma (term_at n)
+
+unfoldable pub terms_at : ℕ → Reads (List TermTree)
+terms_at n = read_listed (same_sort s.Comma) (term_at n) (comma_term_at n)
+
+unfoldable pub initial_at : ℕ → Reads Item
+initial_at n = read_as initial_of (read_pair (read_sign s.Initial) (read_behind s.Rewrites (read_before (terms_at n) s.Semicolon)))
+
+unfoldable pub item_at : ℕ → Reads Item
+item_at n =
+    read_choice (head_is (by (same_sort s.Imports))) imports_at
+    (read_choice (head_is (by (same_sort s.Symbol))) symbols_at
+    (read_choice (head_is (by (same_sort s.Pattern))) (named_at n)
+    (read_choice (head_is (by (same_sort s.Rule))) (rules_at n) (initial_at n))))
+
+-- ---- modules
+
+abbrev pub module_end : Name → Reads Tok
+module_end name = read_behind s.EndModule (read_before (read_one (is_name name)) s.Semicolon)
+
+unfoldable pub items_at : ℕ → Reads (List Item)
+items_at n = read_many (by starts_item) (item_at n)
+
+unfoldable pub module_at : ℕ → Reads Module
+module_at n = read_as module_of (read_behind s.Module (read_row (read_before upper_at s.Semicolon) (λ name. read_pair (items_at n) (module_end name))))
+
+unfoldable pub modules_at : ℕ → Reads (List Module)
+modules_at n = read_listed (same_sort s.Module) (module_at n) (module_at n)
+
+-- ---- faults
+
+-- the refusal of a fault, told by how many tokens stand from it on
+abbrev pub kind_of : Fault → Kind
+kind_of (faults.Unexpected left) = kinds.Unexpected
+kind_of (faults.TooDeep left) = kinds.TooDeep
+
+abbrev pub refusal_of : ℕ → List Tok → Fault → Refusal
+refusal_of end l f = record { kind = kind_of f; place = record { byte = next_place end (drop (length l - fault_left f) l) } }

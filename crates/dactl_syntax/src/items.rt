@@ -1,0 +1,273 @@
+//! Items of modules.
+
+ghost use Rattle.std.specs.Prelude.{◌≡◌};
+ghost use Rattle.dactl_grammar.specs.Giving.{Gives};
+ghost use Rattle.dactl_syntax.specs.Sort.{is_class};
+ghost use Rattle.dactl_syntax.specs.Productions.{class_of};
+ghost use Rattle.dactl_syntax.specs.Reading as spec;
+ghost use Rattle.dactl_syntax.specs.Seen.{toks};
+
+use crate::patterns::pattern;
+use crate::rules::groups;
+use crate::terms::{term, upper};
+use crate::token::{Sort, Terminal, next_is, one, place_of};
+use crate::tree::{Item, Name, TermTree};
+use dactl_base::refusal::Place;
+use dactl_grammar::fault::{Fault, ReadError};
+use dactl_model::program::Class;
+use sqlite_items::Items;
+use std::alloc::Global;
+
+#[tactic(auto, unfolding(crate::specs::Reading::comma_upper_at))]
+fn comma_upper<'a>(
+    alloc: Global,
+    text: &[u8],
+    tokens: &'a [Terminal],
+) -> Result<(Name, &'a [Terminal]), ReadError>
+    ensures { Gives (λ x. (x.0, toks text.now x.1.now)) result (spec.comma_upper_at (toks text.now tokens.now)) }
+{
+    let (_, rest) = one(text, tokens, Sort::Comma)?;
+    upper(alloc, text, rest)
+}
+
+#[tactic(auto, unfolding(crate::specs::Reading::names_at))]
+fn names<'a>(
+    alloc: Global,
+    text: &[u8],
+    tokens: &'a [Terminal],
+) -> Result<(Items<Name>, &'a [Terminal]), ReadError>
+    ensures { Gives (λ x. (x.0, toks text.now x.1.now)) result (spec.names_at (toks text.now tokens.now)) }
+{
+    let (first, after) = upper(alloc, text, tokens)?;
+    let mut found = Items::new(alloc);
+    found.push(first)?;
+    let mut rest = after;
+    'more: while next_is(rest, Sort::Comma) {
+        let (item, after) = comma_upper(alloc, text, rest)?;
+        found.push(item)?;
+        rest = after;
+    }
+    Ok((found, rest))
+}
+
+#[tactic(auto, unfolding(crate::specs::Reading::imports_at))]
+fn imports<'a>(
+    alloc: Global,
+    text: &[u8],
+    tokens: &'a [Terminal],
+) -> Result<(Item, &'a [Terminal]), ReadError>
+    ensures { Gives (λ x. (x.0, toks text.now x.1.now)) result (spec.imports_at (toks text.now tokens.now)) }
+{
+    let (_, rest) = one(text, tokens, Sort::Imports)?;
+    let (names, rest) = names(alloc, text, rest)?;
+    let (_, rest) = one(text, rest, Sort::Semicolon)?;
+    Ok((Item::Imports { names }, rest))
+}
+
+fn class_of(sort: Sort) -> Class
+    ensures { result ≡ class_of sort }
+{
+    match sort {
+        Sort::Rewritable => Class::Rewritable,
+        Sort::Overwritable => Class::Overwritable,
+        _ => Class::Creatable,
+    }
+}
+
+fn is_class(sort: Sort) -> bool
+    ensures { result ≡ is_class sort }
+{
+    matches!(
+        sort,
+        Sort::Rewritable | Sort::Overwritable | Sort::Creatable
+    )
+}
+
+#[tactic(auto, unfolding(crate::specs::Reading::class_reads))]
+fn class<'a>(
+    text: &[u8],
+    tokens: &'a [Terminal],
+) -> Result<((Class, Place), &'a [Terminal]), ReadError>
+    ensures { Gives (λ x. ((x.0.0, x.0.1), toks text.now x.1.now)) result (spec.class_reads (toks text.now tokens.now)) }
+{
+    match tokens {
+        [] => Err(ReadError::Fault(Fault::Unexpected { left: 0 })),
+        [token, rest @ ..] => {
+            if is_class(token.sort) {
+                Ok(((class_of(token.sort), place_of(*token)), rest))
+            } else {
+                Err(ReadError::Fault(Fault::Unexpected { left: tokens.len() }))
+            }
+        }
+    }
+}
+
+#[tactic(auto, unfolding(crate::specs::Reading::public_class_at))]
+fn public_class<'a>(
+    text: &[u8],
+    tokens: &'a [Terminal],
+) -> Result<(Option<(Class, Place)>, &'a [Terminal]), ReadError>
+    ensures { Gives (λ x. (x.0, toks text.now x.1.now)) result (spec.public_class_at (toks text.now tokens.now)) }
+{
+    if next_is(tokens, Sort::Public) {
+        let (_, rest) = one(text, tokens, Sort::Public)?;
+        let (class, rest) = class(text, rest)?;
+        Ok((Some(class), rest))
+    } else {
+        Ok((None, tokens))
+    }
+}
+
+#[tactic(auto, unfolding(crate::specs::Reading::symbols_at, crate::specs::Reading::public_class_at))]
+fn symbols<'a>(
+    alloc: Global,
+    text: &[u8],
+    tokens: &'a [Terminal],
+) -> Result<(Item, &'a [Terminal]), ReadError>
+    ensures { Gives (λ x. (x.0, toks text.now x.1.now)) result (spec.symbols_at (toks text.now tokens.now)) }
+{
+    let (_, rest) = one(text, tokens, Sort::Symbol)?;
+    let ((class, _), rest) = class(text, rest)?;
+    let (public, rest) = public_class(text, rest)?;
+    let (names, rest) = names(alloc, text, rest)?;
+    let (_, rest) = one(text, rest, Sort::Semicolon)?;
+    Ok((
+        Item::Symbols {
+            class,
+            public,
+            names,
+        },
+        rest,
+    ))
+}
+
+#[tactic(auto, unfolding(crate::specs::Reading::public_at))]
+fn public<'a>(text: &[u8], tokens: &'a [Terminal]) -> Result<(bool, &'a [Terminal]), ReadError>
+    ensures { Gives (λ x. (x.0, toks text.now x.1.now)) result (spec.public_at (toks text.now tokens.now)) }
+{
+    if next_is(tokens, Sort::Public) {
+        let (_, rest) = one(text, tokens, Sort::Public)?;
+        Ok((true, rest))
+    } else {
+        Ok((false, tokens))
+    }
+}
+
+#[tactic(auto, unfolding(crate::specs::Reading::named_at))]
+fn named<'a>(
+    alloc: Global,
+    text: &[u8],
+    tokens: &'a [Terminal],
+    room: u32,
+) -> Result<(Item, &'a [Terminal]), ReadError>
+    ensures { Gives (λ x. (x.0, toks text.now x.1.now)) result (spec.named_at room (toks text.now tokens.now)) }
+{
+    let (_, rest) = one(text, tokens, Sort::Pattern)?;
+    let (public, rest) = public(text, rest)?;
+    let (name, rest) = upper(alloc, text, rest)?;
+    let (_, rest) = one(text, rest, Sort::Equals)?;
+    let (pattern, rest) = pattern(alloc, text, rest, room)?;
+    let (_, rest) = one(text, rest, Sort::Semicolon)?;
+    Ok((
+        Item::Named {
+            public,
+            name,
+            pattern,
+        },
+        rest,
+    ))
+}
+
+#[tactic(auto, unfolding(crate::specs::Reading::rules_at))]
+fn rules<'a>(
+    alloc: Global,
+    text: &[u8],
+    tokens: &'a [Terminal],
+    room: u32,
+) -> Result<(Item, &'a [Terminal]), ReadError>
+    ensures { Gives (λ x. (x.0, toks text.now x.1.now)) result (spec.rules_at room (toks text.now tokens.now)) }
+{
+    let (_, rest) = one(text, tokens, Sort::Rule)?;
+    let (groups, rest) = groups(alloc, text, rest, room)?;
+    Ok((Item::Rules { groups }, rest))
+}
+
+#[tactic(auto, unfolding(crate::specs::Reading::comma_term_at))]
+fn comma_term<'a>(
+    alloc: Global,
+    text: &[u8],
+    tokens: &'a [Terminal],
+    room: u32,
+) -> Result<(TermTree, &'a [Terminal]), ReadError>
+    ensures { Gives (λ x. (x.0, toks text.now x.1.now)) result (spec.comma_term_at room (toks text.now tokens.now)) }
+{
+    let (_, rest) = one(text, tokens, Sort::Comma)?;
+    term(alloc, text, rest, room)
+}
+
+#[tactic(auto, unfolding(crate::specs::Reading::terms_at))]
+fn terms<'a>(
+    alloc: Global,
+    text: &[u8],
+    tokens: &'a [Terminal],
+    room: u32,
+) -> Result<(Items<TermTree>, &'a [Terminal]), ReadError>
+    ensures { Gives (λ x. (x.0, toks text.now x.1.now)) result (spec.terms_at room (toks text.now tokens.now)) }
+{
+    let (first, after) = term(alloc, text, tokens, room)?;
+    let mut found = Items::new(alloc);
+    found.push(first)?;
+    let mut rest = after;
+    'more: while next_is(rest, Sort::Comma) {
+        let (item, after) = comma_term(alloc, text, rest, room)?;
+        found.push(item)?;
+        rest = after;
+    }
+    Ok((found, rest))
+}
+
+#[tactic(auto, unfolding(crate::specs::Reading::initial_at))]
+fn initial<'a>(
+    alloc: Global,
+    text: &[u8],
+    tokens: &'a [Terminal],
+    room: u32,
+) -> Result<(Item, &'a [Terminal]), ReadError>
+    ensures { Gives (λ x. (x.0, toks text.now x.1.now)) result (spec.initial_at room (toks text.now tokens.now)) }
+{
+    let (token, rest) = one(text, tokens, Sort::Initial)?;
+    let (_, rest) = one(text, rest, Sort::Rewrites)?;
+    let (terms, rest) = terms(alloc, text, rest, room)?;
+    let (_, rest) = one(text, rest, Sort::Semicolon)?;
+    Ok((
+        Item::Initial {
+            place: place_of(token),
+            terms,
+        },
+        rest,
+    ))
+}
+
+#[tactic(auto, unfolding(crate::specs::Reading::item_at))]
+pub fn item<'a>(
+    alloc: Global,
+    text: &[u8],
+    tokens: &'a [Terminal],
+    room: u32,
+) -> Result<(Item, &'a [Terminal]), ReadError>
+    ensures { Gives (λ x. (x.0, toks text.now x.1.now)) result (spec.item_at room (toks text.now tokens.now)) }
+{
+    if next_is(tokens, Sort::Imports) {
+        return imports(alloc, text, tokens);
+    }
+    if next_is(tokens, Sort::Symbol) {
+        return symbols(alloc, text, tokens);
+    }
+    if next_is(tokens, Sort::Pattern) {
+        return named(alloc, text, tokens, room);
+    }
+    if next_is(tokens, Sort::Rule) {
+        return rules(alloc, text, tokens, room);
+    }
+    initial(alloc, text, tokens, room)
+}

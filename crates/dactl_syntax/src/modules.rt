@@ -1,0 +1,114 @@
+//! Modules.
+
+ghost use Rattle.std.specs.Prelude.{◌≡◌, ℕ, List};
+ghost use Rattle.dactl_grammar.specs.Reader.{head_is, read_one};
+ghost use Rattle.dactl_grammar.specs.Giving.{Gives};
+ghost use Rattle.dactl_syntax.specs.Sort.{starts_item};
+ghost use Rattle.dactl_syntax.specs.Productions.{is_name};
+ghost use Rattle.dactl_syntax.specs.Reading as spec;
+ghost use Rattle.dactl_syntax.specs.Seen.{seen, toks};
+
+use crate::items::item;
+use crate::terms::upper;
+use crate::token::{Sort, Terminal, next_is, one, same_sort, word};
+use crate::tree::{Item, Module, Name};
+use dactl_grammar::fault::{Fault, ReadError};
+use sqlite_items::Items;
+use std::alloc::Global;
+
+fn starts_item(tokens: &[Terminal]) -> bool
+    ensures { (text : List ℕ) → result ≡ head_is (spec.by starts_item) (toks text tokens.now) }
+{
+    match tokens {
+        [] => false,
+        [token, ..] => matches!(
+            token.sort,
+            Sort::Imports | Sort::Symbol | Sort::Pattern | Sort::Rule | Sort::Initial
+        ),
+    }
+}
+
+#[tactic(auto, unfolding(crate::specs::Reading::items_at))]
+fn items<'a>(
+    alloc: Global,
+    text: &[u8],
+    tokens: &'a [Terminal],
+    room: u32,
+) -> Result<(Items<Item>, &'a [Terminal]), ReadError>
+    ensures { Gives (λ x. (x.0, toks text.now x.1.now)) result (spec.items_at room (toks text.now tokens.now)) }
+{
+    let mut found = Items::new(alloc);
+    let mut rest = tokens;
+    'more: while starts_item(rest) {
+        let (item, after) = item(alloc, text, rest, room)?;
+        found.push(item)?;
+        rest = after;
+    }
+    Ok((found, rest))
+}
+
+/// Whether the token spells this name.
+fn is_name(text: &[u8], name: &Name, token: Terminal) -> bool
+    ensures { result ≡ is_name name.now (seen text.now token) }
+{
+    same_sort(Sort::Upper, token.sort) && word(text, token) == name.text.as_slice()
+}
+
+fn same_name<'a>(
+    text: &[u8],
+    name: &Name,
+    tokens: &'a [Terminal],
+) -> Result<(Terminal, &'a [Terminal]), ReadError>
+    ensures { Gives (λ x. (seen text.now x.0, toks text.now x.1.now)) result (read_one (is_name name.now) (toks text.now tokens.now)) }
+{
+    match tokens {
+        [] => Err(ReadError::Fault(Fault::Unexpected { left: 0 })),
+        [token, rest @ ..] => {
+            if is_name(text, name, *token) {
+                Ok((*token, rest))
+            } else {
+                Err(ReadError::Fault(Fault::Unexpected { left: tokens.len() }))
+            }
+        }
+    }
+}
+
+#[tactic(auto, unfolding(crate::specs::Reading::module_at))]
+fn module<'a>(
+    alloc: Global,
+    text: &[u8],
+    tokens: &'a [Terminal],
+    room: u32,
+) -> Result<(Module, &'a [Terminal]), ReadError>
+    ensures { Gives (λ x. (x.0, toks text.now x.1.now)) result (spec.module_at room (toks text.now tokens.now)) }
+{
+    let (_, rest) = one(text, tokens, Sort::Module)?;
+    let (name, rest) = upper(alloc, text, rest)?;
+    let (_, rest) = one(text, rest, Sort::Semicolon)?;
+    let (items, rest) = items(alloc, text, rest, room)?;
+    let (_, rest) = one(text, rest, Sort::EndModule)?;
+    let (_, rest) = same_name(text, &name, rest)?;
+    let (_, rest) = one(text, rest, Sort::Semicolon)?;
+    Ok((Module { name, items }, rest))
+}
+
+#[tactic(auto, unfolding(crate::specs::Reading::modules_at))]
+pub fn modules<'a>(
+    alloc: Global,
+    text: &[u8],
+    tokens: &'a [Terminal],
+    room: u32,
+) -> Result<(Items<Module>, &'a [Terminal]), ReadError>
+    ensures { Gives (λ x. (x.0, toks text.now x.1.now)) result (spec.modules_at room (toks text.now tokens.now)) }
+{
+    let (first, after) = module(alloc, text, tokens, room)?;
+    let mut found = Items::new(alloc);
+    found.push(first)?;
+    let mut rest = after;
+    'more: while next_is(rest, Sort::Module) {
+        let (item, after) = module(alloc, text, rest, room)?;
+        found.push(item)?;
+        rest = after;
+    }
+    Ok((found, rest))
+}

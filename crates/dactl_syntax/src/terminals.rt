@@ -1,0 +1,124 @@
+//! From the tokens of a text to those of the parser: each with its sort and its value.
+
+ghost use Rattle.std.specs.Prelude.{◌≡◌, IfOk};
+ghost use Rattle.dactl_syntax.specs.Seen.{between, keyword_sort, sign_sort, sort_of, value_at, seen, toks, token_seen, tokens_seen};
+
+use crate::token::{Sort, Terminal, between};
+use dactl_tokens::{Token, TokenKind, integer};
+use std::alloc::{AllocError, Global};
+
+#[tactic(auto, unfolding(crate::specs::Seen::keyword_sort))]
+fn keyword_sort(word: &[u8]) -> Sort
+    ensures { result ≡ keyword_sort word.now }
+{
+    if word == b"MODULE".as_slice() {
+        Sort::Module
+    } else if word == b"ENDMODULE".as_slice() {
+        Sort::EndModule
+    } else if word == b"IMPORTS".as_slice() {
+        Sort::Imports
+    } else if word == b"SYMBOL".as_slice() {
+        Sort::Symbol
+    } else if word == b"PATTERN".as_slice() {
+        Sort::Pattern
+    } else if word == b"RULE".as_slice() {
+        Sort::Rule
+    } else if word == b"INITIAL".as_slice() {
+        Sort::Initial
+    } else if word == b"PUBLIC".as_slice() {
+        Sort::Public
+    } else if word == b"REWRITABLE".as_slice() {
+        Sort::Rewritable
+    } else if word == b"OVERWRITABLE".as_slice() {
+        Sort::Overwritable
+    } else if word == b"CREATABLE".as_slice() {
+        Sort::Creatable
+    } else if word == b"ANY".as_slice() {
+        Sort::Any
+    } else {
+        Sort::Int
+    }
+}
+
+#[tactic(auto, unfolding(crate::specs::Seen::sign_sort))]
+fn sign_sort(word: &[u8]) -> Sort
+    ensures { result ≡ sign_sort word.now }
+{
+    if word == b"[".as_slice() {
+        Sort::Open
+    } else if word == b"]".as_slice() {
+        Sort::Close
+    } else if word == b"(".as_slice() {
+        Sort::Left
+    } else if word == b")".as_slice() {
+        Sort::Right
+    } else if word == b";".as_slice() {
+        Sort::Semicolon
+    } else if word == b",".as_slice() {
+        Sort::Comma
+    } else if word == b"|".as_slice() {
+        Sort::Bar
+    } else if word == b":".as_slice() {
+        Sort::Colon
+    } else if word == b":=".as_slice() {
+        Sort::Becomes
+    } else if word == b"=".as_slice() {
+        Sort::Equals
+    } else if word == b"=>".as_slice() {
+        Sort::Rewrites
+    } else if word == b"->".as_slice() {
+        Sort::Arrow
+    } else if word == b"*".as_slice() {
+        Sort::Star
+    } else if word == b"#".as_slice() {
+        Sort::Hash
+    } else if word == b"^".as_slice() {
+        Sort::Wait
+    } else if word == b"+".as_slice() {
+        Sort::Plus
+    } else {
+        Sort::Minus
+    }
+}
+
+#[tactic(auto, unfolding(crate::specs::Seen::sort_of))]
+fn sort_of(kind: TokenKind, word: &[u8]) -> Sort
+    ensures { result ≡ sort_of kind word.now }
+{
+    match kind {
+        TokenKind::Upper => Sort::Upper,
+        TokenKind::Lower => Sort::Lower,
+        TokenKind::Integer => Sort::Integer,
+        TokenKind::Keyword => keyword_sort(word),
+        TokenKind::Sign => sign_sort(word),
+    }
+}
+
+fn value_at(word: &[u8]) -> i64
+    ensures { result ≡ value_at word.now }
+{
+    integer(word).unwrap_or(0)
+}
+
+fn terminal(text: &[u8], token: Token) -> Terminal
+    ensures { seen text.now result ≡ token_seen text.now token }
+{
+    let word = between(text, token.from, token.to);
+    Terminal {
+        sort: sort_of(token.kind, word),
+        value: value_at(word),
+        from: token.from,
+        to: token.to,
+    }
+}
+
+/// The tokens with their sorts and values.
+pub fn terminals(alloc: Global, text: &[u8], tokens: &[Token]) -> Result<Vec<Terminal>, AllocError>
+    ensures { IfOk result (λ found. toks text.now found.items ≡ tokens_seen text.now tokens.now) }
+{
+    let mut found = Vec::new(alloc);
+    for token in tokens {
+        found.push(terminal(text, *token))?;
+    }
+    Ok(found)
+}

@@ -1,0 +1,89 @@
+//! Whole texts.
+
+ghost use Rattle.std.specs.Prelude.{◌≡◌, ◌-◌, ◌≤◌, List, drop, length, Err, IfOk};
+ghost use Rattle.dactl_base.specs.declared.refusal.Refusal.{Refusal as The_refusal};
+ghost use Rattle.dactl_base.specs.declared.refusal.TextFault.TheVariants.{Refused};
+ghost use Rattle.dactl_grammar.specs.Reader.{read_all};
+ghost use Rattle.dactl_grammar.specs.Giving.{Gives};
+ghost use Rattle.dactl_tokens.specs.Answer.{OkOrMemory, RefusedOrMemory};
+ghost use Rattle.dactl_syntax.specs.declared.tree.Text.{Text as The_text};
+ghost use Rattle.dactl_syntax.specs.Reading.{modules_at, refusal_of};
+ghost use Rattle.dactl_syntax.specs.Seen.{toks};
+ghost use Rattle.dactl_syntax.specs.Answer.{IsTree, IsFirstFault, most_open, next_place};
+
+use crate::modules::modules;
+use crate::terminals::terminals;
+use crate::token::{Terminal, place_of};
+use crate::tree::{Module, Text};
+use dactl_base::refusal::{Kind, Place, Refusal, TextFault};
+use dactl_grammar::fault::{Fault, ReadError};
+use dactl_tokens::Token;
+use sqlite_items::Items;
+use std::alloc::Global;
+
+/// How many brackets may be open.
+const MOST_OPEN: u32 = 200;
+
+/// Reads all of the tokens.
+fn whole(alloc: Global, text: &[u8], tokens: &[Terminal]) -> Result<Items<Module>, ReadError>
+    ensures { Gives (λ x. x) result (read_all (modules_at most_open) (toks text.now tokens.now)) }
+{
+    let (modules, rest) = modules(alloc, text, tokens, MOST_OPEN)?;
+    if !rest.is_empty() {
+        return Err(ReadError::Fault(Fault::Unexpected { left: rest.len() }));
+    }
+    Ok(modules)
+}
+
+/// Where the token stands that has so many tokens from it on: the end of the text where there are none.
+fn place_from(text: &[u8], tokens: &[Terminal], left: usize) -> Place
+    requires { length text.now ≤ 1048576 }
+    ensures { result.byte ≡ next_place (length text.now) (drop (length tokens.now - left) (toks text.now tokens.now)) }
+{
+    match tokens.get(tokens.len().saturating_sub(left)) {
+        Some(token) => place_of(*token),
+        None => Place {
+            byte: text.len() as u32,
+        },
+    }
+}
+
+fn refusal_of(text: &[u8], tokens: &[Terminal], fault: Fault) -> Refusal
+    requires { length text.now ≤ 1048576 }
+    ensures { result ≡ refusal_of (length text.now) (toks text.now tokens.now) fault }
+{
+    match fault {
+        Fault::Unexpected { left } => Refusal {
+            kind: Kind::Unexpected,
+            place: place_from(text, tokens, left),
+        },
+        Fault::TooDeep { left } => Refusal {
+            kind: Kind::TooDeep,
+            place: place_from(text, tokens, left),
+        },
+    }
+}
+
+/// The tree of a text, which is given with its tokens, or the first fault: `Unexpected` at the first
+/// token with which the tokens so far begin no text (at the text's length where the text ends too
+/// early), `TooDeep` at the first bracket that makes more than 200 open.
+pub fn parse(alloc: Global, text: &[u8], tokens: &[Token]) -> Result<Text, TextFault>
+    requires short { length text.now ≤ 1048576 }
+    ensures found { IfOk result (IsTree text.now tokens.now) }
+    ensures only { (tree : The_text) → IsTree text.now tokens.now tree → OkOrMemory (λ found. found) tree result }
+    ensures refused { (r : The_refusal) → result ≡ Err (Refused r) → IsFirstFault text.now tokens.now r }
+    ensures only_refused { (r : The_refusal) → IsFirstFault text.now tokens.now r → RefusedOrMemory r result }
+{
+    let terminals = terminals(alloc, text, tokens)?;
+    match whole(alloc, text, terminals.as_slice()) {
+        Ok(modules) => Ok(Text {
+            modules,
+            length: text.len() as u32,
+        }),
+        Err(ReadError::Memory) => Err(TextFault::Memory),
+        Err(ReadError::Fault(fault)) => {
+            let refusal = refusal_of(text, terminals.as_slice(), fault);
+            Err(TextFault::Refused(refusal))
+        }
+    }
+}

@@ -1,0 +1,4 @@
+pub mod Spelling
+pub mod Lexes
+pub mod Answer
+pub mod Found

@@ -1,0 +1,70 @@
+//! Tests on single bytes.
+
+ghost use Rattle.std.specs.Prelude.{◌≡◌, ◌==◌, ◌&&◌};
+ghost use Rattle.dactl_tokens.specs.Spelling as spell;
+
+pub fn is_blank(byte: u8) -> bool
+    ensures { result ≡ spell.is_blank byte }
+{
+    byte == b' ' || byte == b'\t' || byte == b'\n' || byte == b'\r'
+}
+
+pub fn is_upper(byte: u8) -> bool
+    ensures { result ≡ spell.is_upper byte }
+{
+    b'A' <= byte && byte <= b'Z'
+}
+
+pub fn is_lower(byte: u8) -> bool
+    ensures { result ≡ spell.is_lower byte }
+{
+    b'a' <= byte && byte <= b'z'
+}
+
+pub fn is_digit(byte: u8) -> bool
+    ensures { result ≡ spell.is_digit byte }
+{
+    b'0' <= byte && byte <= b'9'
+}
+
+pub fn is_word(byte: u8) -> bool
+    ensures { result ≡ spell.is_word byte }
+{
+    is_upper(byte) || is_lower(byte) || is_digit(byte) || byte == b'_'
+}
+
+#[tactic(auto, unfolding(crate::specs::Spelling::is_sign_byte))]
+pub fn is_sign_byte(byte: u8) -> bool
+    ensures { result ≡ spell.is_sign_byte byte }
+{
+    byte == b'['
+        || byte == b']'
+        || byte == b'('
+        || byte == b')'
+        || byte == b';'
+        || byte == b','
+        || byte == b'|'
+        || byte == b':'
+        || byte == b'='
+        || byte == b'*'
+        || byte == b'#'
+        || byte == b'^'
+        || byte == b'+'
+        || byte == b'-'
+}
+
+#[tactic(auto, unfolding(crate::specs::Spelling::is_long_sign))]
+pub fn is_long_sign(first: u8, second: u8) -> bool
+    ensures { result ≡ spell.is_long_sign first second }
+{
+    (first == b':' && second == b'=')
+        || (first == b'=' && second == b'>')
+        || (first == b'-' && second == b'>')
+}
+
+/// Whether an integer with a sign stands there.
+pub fn is_minus(first: u8, second: u8) -> bool
+    ensures { result ≡ ((first == 45) && spell.is_digit second) }
+{
+    first == b'-' && is_digit(second)
+}

@@ -1,0 +1,85 @@
+//! The tokens of a text.
+
+ghost use Rattle.std.specs.Prelude.{◌≡◌, ◌+◌, ◌≤◌, ◌<◌, ◌^◌, List, length, true, false, Err, IfOk};
+ghost use Rattle.dactl_base.specs.declared.refusal.Refusal.{Refusal as The_refusal};
+ghost use Rattle.dactl_base.specs.declared.refusal.TextFault.TheVariants.{Refused};
+ghost use Rattle.dactl_tokens.specs.declared.token.Token.{Token as The_token};
+ghost use Rattle.dactl_tokens.specs.declared.token.TokenKind.TheVariants as kinds;
+ghost use Rattle.dactl_tokens.specs.Spelling.{is_wide};
+ghost use Rattle.dactl_tokens.specs.Lexes.{Lexes};
+ghost use Rattle.dactl_tokens.specs.Answer.{IsFirstFault, OkOrMemory, RefusedOrMemory};
+ghost use Rattle.dactl_tokens.specs.Found.{TokenThere, FaultThere, Halts};
+
+use crate::gaps::skip_gap;
+use crate::integers::integer;
+use crate::token::{Token, TokenKind};
+use crate::words::longest;
+use dactl_base::refusal::{Kind, Place, Refusal, TextFault};
+use std::alloc::Global;
+
+/// Whether the token is no integer past the range.
+fn fits(kind: TokenKind, word: &[u8]) -> bool
+    ensures yes { result ≡ true → kind ≡ kinds.Integer → is_wide word.now ≡ false }
+    ensures no { result ≡ false → (kind ≡ kinds.Integer) × (is_wide word.now ≡ true) }
+{
+    match kind {
+        TokenKind::Integer => integer(word).is_some(),
+        _ => true,
+    }
+}
+
+fn refused(kind: Kind, byte: u32) -> TextFault
+    ensures { result ≡ Refused (record { kind = kind; place = record { byte = byte } }) }
+{
+    TextFault::Refused(Refusal {
+        kind,
+        place: Place { byte },
+    })
+}
+
+/// The token that stands first, and what is behind it.
+fn next_token(place: u32, bytes: &[u8]) -> Result<(Token, &[u8]), TextFault>
+    requires halts { Halts bytes.now }
+    requires more { 0 < length bytes.now }
+    requires fits { place + length bytes.now < 2 ^ 32 }
+    ensures token { IfOk result (λ x. TokenThere place bytes.now x.1.now x.0) }
+    ensures fault { (r : The_refusal) → result ≡ Err (Refused r) → FaultThere place bytes.now r }
+{
+    match longest(bytes) {
+        None => Err(refused(Kind::BadByte, place)),
+        Some((kind, len)) => {
+            let (word, rest) = bytes.split_at(len);
+            if !fits(kind, word) {
+                return Err(refused(Kind::NumberTooWide, place));
+            }
+            let to = place + len as u32;
+            Ok((
+                Token {
+                    kind,
+                    from: place,
+                    to,
+                },
+                rest,
+            ))
+        }
+    }
+}
+
+/// The tokens of a text, with rising places, or its first fault: `BadByte` or `NumberTooWide`.
+pub fn tokens(alloc: Global, text: &[u8]) -> Result<Vec<Token>, TextFault>
+    requires short { length text.now ≤ 1048576 }
+    ensures found { IfOk result (λ found. Lexes text.now found.items) }
+    ensures only { (ts : List The_token) → Lexes text.now ts → OkOrMemory (λ found. found.items) ts result }
+    ensures refused { (r : The_refusal) → result ≡ Err (Refused r) → IsFirstFault text.now r }
+    ensures only_refused { (r : The_refusal) → IsFirstFault text.now r → RefusedOrMemory r result }
+{
+    let mut found = Vec::new(alloc);
+    let mut rest = skip_gap(text);
+    'token: while !rest.is_empty() {
+        let place = (text.len() - rest.len()) as u32;
+        let (token, after) = next_token(place, rest)?;
+        found.push(token)?;
+        rest = skip_gap(after);
+    }
+    Ok(found)
+}
