@@ -1,0 +1,271 @@
+ghost use Rattle.std.specs.Prelude.{◌≡◌, ◌<◌, ◌^◌, IfOk, IfSome, length};
+ghost use Rattle.dactl_model.specs.Graphs.{HasNode, IsWellFormed};
+ghost use Rattle.dactl_model.specs.Programs.{IsValid};
+
+use crate::{Choice, allowed, choose, fire, matches, note, start_graph};
+use dactl_model::Memory;
+use dactl_model::arithmetic::arithmetic_rule;
+use dactl_model::graph::{Graph, Label, Mark, NodeId};
+use dactl_model::program::{
+    Body, Class, FreshArc, FreshNode, Left, Mention, Move, Op, Pat, Program, Rule, Start, Symbol,
+};
+use dactl_model::validity::is_valid;
+use sqlite_items::Items;
+use std::alloc::Global;
+use std::test::Fail;
+
+/// What a step does at the node, if it is active.
+fn stepped(
+    alloc: Global,
+    program: &Program,
+    graph: &Graph,
+    node: NodeId,
+) -> Result<Option<Graph>, Memory>
+    requires program { IsValid program.now }
+    requires graph { IsWellFormed graph.now }
+    requires node { HasNode graph.now node }
+    requires small { length graph.now.nodes < 2 ^ 31 }
+    ensures { IfOk result (λ after. IfSome after IsWellFormed) }
+{
+    match choose(alloc, program, graph, node)? {
+        Choice::Resting => Ok(None),
+        Choice::Fire { rule, bindings } => {
+            let after = fire(alloc, program, graph, node, rule, bindings.as_slice())?;
+            Ok(Some(after))
+        }
+        Choice::Note => {
+            let after = note(alloc, graph, node)?;
+            Ok(Some(after))
+        }
+    }
+}
+
+/// The same at the node of this number, if there is one.
+fn stepped_at(
+    alloc: Global,
+    program: &Program,
+    graph: &Graph,
+    number: u32,
+) -> Result<Option<Graph>, Memory>
+    requires program { IsValid program.now }
+    requires graph { IsWellFormed graph.now }
+    ensures { IfOk result (λ after. IfSome after IsWellFormed) }
+{
+    if number as usize >= graph.nodes.len() || graph.nodes.len() > 1000 {
+        return Ok(None);
+    }
+    stepped(alloc, program, graph, NodeId { number })
+}
+
+fn begun(alloc: Global, program: &Program) -> Result<Graph, Memory>
+    requires { IsValid program.now }
+    ensures { IfOk result IsWellFormed }
+{
+    start_graph(alloc, program)
+}
+
+/// The number of the first active node.
+fn first_active(graph: &Graph) -> Option<u32> {
+    let place = graph
+        .nodes
+        .as_slice()
+        .iter()
+        .position(|node| node.mark == Mark::Active)?;
+    u32::try_from(place).ok()
+}
+
+/// The graph after at most ten steps, each at the first active node, and the number of steps.
+fn run(alloc: Global, program: &Program) -> Result<(Graph, u32), Memory>
+    requires { IsValid program.now }
+{
+    let mut graph = begun(alloc, program)?;
+    for count in 0..10 {
+        let Some(number) = first_active(&graph) else {
+            return Ok((graph, count));
+        };
+        let Some(after) = stepped_at(alloc, program, &graph, number)? else {
+            return Ok((graph, count));
+        };
+        graph = after;
+    }
+    Ok((graph, 10))
+}
+
+fn symbol(alloc: Global, name: &[u8]) -> Result<Symbol, Memory> {
+    Ok(Symbol {
+        name: Items::from_slice(alloc, name)?,
+        class: Class::Rewritable,
+    })
+}
+
+fn symbols(alloc: Global) -> Result<Items<Symbol>, Memory> {
+    let names: [&[u8]; 10] = [
+        b"IAdd", b"ISub", b"IMul", b"IEq", b"ILt", b"True", b"False", b"Both", b"A", b"B",
+    ];
+    let mut all = Items::new(alloc);
+    for name in names {
+        all.push(symbol(alloc, name)?)?;
+    }
+    Ok(all)
+}
+
+fn node(alloc: Global, symbol: u32, mark: Mark, arcs: &[FreshArc]) -> Result<FreshNode, Memory> {
+    Ok(FreshNode {
+        label: Label::Symbol(symbol),
+        arcs: Items::from_slice(alloc, arcs)?,
+        mark,
+    })
+}
+
+fn leaf(alloc: Global, symbol: u32) -> Pat {
+    Pat::Sym {
+        symbol,
+        args: Items::new(alloc),
+    }
+}
+
+/// `Both[A A]`.
+fn pattern(alloc: Global) -> Result<Pat, Memory> {
+    let mut args = Items::new(alloc);
+    args.push(leaf(alloc, 8))?;
+    args.push(leaf(alloc, 8))?;
+    Ok(Pat::Sym { symbol: 7, args })
+}
+
+/// `*B` in the place of the root.
+fn contractum(alloc: Global) -> Result<Body, Memory> {
+    let mut fresh = Items::new(alloc);
+    fresh.push(node(alloc, 9, Mark::Active, &[])?)?;
+    let to_first = Move {
+        from: Left::Root,
+        to: Mention::Fresh(0),
+    };
+    Ok(Body::Written {
+        fresh,
+        moves: Items::from_slice(alloc, &[to_first])?,
+        wakes: Items::new(alloc),
+    })
+}
+
+/// The rules of the arithmetic, and `Both[A A] => *B`.
+fn rules(alloc: Global) -> Result<Items<Rule>, Memory> {
+    let mut all = Items::new(alloc);
+    for (number, op) in [Op::Add, Op::Sub, Op::Mul, Op::Eq, Op::Lt]
+        .into_iter()
+        .enumerate()
+    {
+        all.push(arithmetic_rule(alloc, number as u32, op)?)?;
+    }
+    all.push(Rule {
+        symbol: 7,
+        group: 5,
+        variables: 0,
+        pattern: pattern(alloc)?,
+        body: contractum(alloc)?,
+    })?;
+    Ok(all)
+}
+
+/// `##Both[^*A ^*A]`, where the second arc leads to the node of this number.
+fn start(alloc: Global, second: u32) -> Result<Start, Memory> {
+    let flagged = |node| FreshArc {
+        to: Mention::Fresh(node),
+        waits: true,
+    };
+    let mut fresh = Items::new(alloc);
+    fresh.push(node(alloc, 7, Mark::Waiting(2), &[flagged(1), flagged(second)])?)?;
+    fresh.push(node(alloc, 8, Mark::Active, &[])?)?;
+    fresh.push(node(alloc, 8, Mark::Active, &[])?)?;
+    Ok(Start { fresh, root: 0 })
+}
+
+fn both(alloc: Global, second: u32) -> Result<Program, Memory> {
+    Ok(Program {
+        symbols: symbols(alloc)?,
+        rules: rules(alloc)?,
+        start: start(alloc, second)?,
+    })
+}
+
+/// With two arcs to one node, both notifications come at once, and the other node's own is for
+/// nobody.
+#[test]
+fn both_waits_for_each_of_its_arcs(rt: HostRuntime) -> Result<(), Fail> {
+    for second in [1, 2] {
+        let program = both(rt.alloc(), second)?;
+        assert!(rt; is_valid(&program));
+        let (graph, steps) = run(rt.alloc(), &program)?;
+        assert_eq!(rt; steps, 4);
+        assert_eq!(rt; graph.root, NodeId { number: 3 });
+    }
+    Ok(())
+}
+
+/// The start, after both notifications.
+fn notified(alloc: Global, program: &Program) -> Result<Option<Graph>, Memory>
+    requires { IsValid program.now }
+    ensures { IfOk result (λ after. IfSome after IsWellFormed) }
+{
+    let graph = begun(alloc, program)?;
+    let Some(graph) = stepped_at(alloc, program, &graph, 1)? else {
+        return Ok(None);
+    };
+    stepped_at(alloc, program, &graph, 2)
+}
+
+/// Whether the root may fire by the last rule once it is notified, the number of its bindings, and
+/// the graph after that.
+fn fired_root(alloc: Global, program: &Program) -> Result<Option<(bool, usize, Graph)>, Memory>
+    requires { IsValid program.now }
+{
+    let Some(graph) = notified(alloc, program)? else {
+        return Ok(None);
+    };
+    if program.rules.len() <= 5 {
+        return Ok(None);
+    }
+    let root = NodeId { number: 0 };
+    let is_allowed = allowed(alloc, program, &graph, root, 5)?;
+    let Some(bindings) = matches(alloc, program, &graph, root, 5)? else {
+        return Ok(None);
+    };
+    let Some(after) = stepped_at(alloc, program, &graph, 0)? else {
+        return Ok(None);
+    };
+    Ok(Some((is_allowed, bindings.len(), after)))
+}
+
+#[test]
+fn both_fires_once_it_is_notified(rt: HostRuntime) -> Result<(), Fail> {
+    let program = both(rt.alloc(), 2)?;
+    assert!(rt; is_valid(&program));
+    let (is_allowed, bindings, graph) = fired_root(rt.alloc(), &program)?.ok_or("no step")?;
+    assert!(rt; is_allowed);
+    assert_eq!(rt; bindings, 0);
+    assert_eq!(rt; graph.nodes.len(), 4);
+    assert_eq!(rt; graph.root, NodeId { number: 3 });
+    Ok(())
+}
+
+/// What is to be done at the first two nodes of the start.
+fn first_choices(alloc: Global, program: &Program) -> Result<Option<(Choice, Choice)>, Memory>
+    requires { IsValid program.now }
+{
+    let graph = begun(alloc, program)?;
+    if graph.nodes.len() < 2 {
+        return Ok(None);
+    }
+    let first = choose(alloc, program, &graph, NodeId { number: 0 })?;
+    let second = choose(alloc, program, &graph, NodeId { number: 1 })?;
+    Ok(Some((first, second)))
+}
+
+#[test]
+fn both_rests_at_first(rt: HostRuntime) -> Result<(), Fail> {
+    let program = both(rt.alloc(), 2)?;
+    assert!(rt; is_valid(&program));
+    let (first, second) = first_choices(rt.alloc(), &program)?.ok_or("small")?;
+    assert!(rt; matches!(first, Choice::Resting));
+    assert!(rt; matches!(second, Choice::Note));
+    Ok(())
+}
