@@ -9,3 +9,4 @@ pub mod Steps
 pub mod TermGrowth
 pub mod TextGrowth
 pub mod Answered
+pub mod Written

@@ -4,3 +4,4 @@ pub mod Seen
 pub mod Answer
 pub mod Reading
 pub mod Laws
+pub mod Canonical

@@ -14,5 +14,11 @@ mod tests;
 mod text;
 mod token;
 pub mod tree;
+mod write_items;
+mod write_patterns;
+mod write_rules;
+mod write_terms;
+mod write_words;
 
 pub use text::parse;
+pub use write_items::write_text;

@@ -2,6 +2,7 @@ ghost use Rattle.std.specs.Prelude.{◌≤◌, length};
 
 use crate::text::parse;
 use crate::tree::{Item, Marks, Part, PatternTree, Sign, Text};
+use crate::write_items::write_text;
 use dactl_base::refusal::{Kind, Place, Refusal, TextFault};
 use dactl_tokens::tokens;
 use std::alloc::Global;
@@ -139,6 +140,30 @@ fn a_tree_is_read(rt: HostRuntime) -> Result<(), TextFault> {
     let append = read(rt.alloc(), APPEND)?;
     for module in append.modules.as_slice() {
         assert!(&rt; module.items.len() == 4);
+    }
+    Ok(())
+}
+
+const APPEND_WRITTEN: &[u8] =
+    b"MODULE Main ;\nSYMBOL REWRITABLE Append ;\nSYMBOL CREATABLE Cons , Nil ;\nRULE Append [ Nil y ] => * y ;\nAppend [ Cons [ h t ] y ] => * Cons [ h * Append [ t y ] ] ;\nINITIAL => * Append [ Cons [ Nil Nil ] Nil ] ;\nENDMODULE Main ;\n";
+
+// A text is written in its canonical form, which is written as it is.
+#[test]
+fn a_tree_is_written(rt: HostRuntime) -> Result<(), TextFault> {
+    let table: [(&[u8], &[u8]); 2] = [
+        (APPEND, APPEND_WRITTEN),
+        (
+            b"MODULE M;IMPORTS A,B;SYMBOL OVERWRITABLE PUBLIC CREATABLE C;PATTERN PUBLIC P=(((ANY+INT)))-Q;RULE F[(x:(y) - 0)(A)(A+B)z:(u:(v))]->x:=##a:G[],b|(q)=>c;ENDMODULE M;".as_slice(),
+            b"MODULE M ;\nIMPORTS A , B ;\nSYMBOL OVERWRITABLE PUBLIC CREATABLE C ;\nPATTERN PUBLIC P = ( ANY + INT ) - Q ;\nRULE F [ ( x : ( y ) - 0 ) A ( A + B ) z : ( u : ( v ) ) ] -> x := # # a : G , b | q => c ;\nENDMODULE M ;\n".as_slice(),
+        ),
+    ];
+    for (text, canonical) in table {
+        let tree = read(rt.alloc(), text)?;
+        let written = write_text(rt.alloc(), &tree)?;
+        assert!(&rt; written.as_slice() == canonical);
+        let again = read(rt.alloc(), canonical)?;
+        let rewritten = write_text(rt.alloc(), &again)?;
+        assert!(&rt; rewritten.as_slice() == canonical);
     }
     Ok(())
 }

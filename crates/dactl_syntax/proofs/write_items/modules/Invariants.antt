@@ -1,0 +1,7 @@
+use Rattle.std.proofs.Common.{◌≡◌, ◌++◌, map, take}
+use Rattle.std.specs.List.{concat}
+use Rattle.dactl_syntax.specs.Canonical.{module_text}
+use Rattle.dactl_syntax.proofs.write_items.modules.Given as goal
+
+abbrev pub invariant-loop-one : goal.invariant-loop-one
+invariant-loop-one l = l.out.items ≡ l.initial.out.items ++ concat (map module_text (take l.one-index l.modules))

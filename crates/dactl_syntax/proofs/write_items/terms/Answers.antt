@@ -1,0 +1,10 @@
+use Rattle.std.proofs.Common.{rules, ◌≡◌, ◌++◌}
+use Rattle.dactl_syntax.specs.declared.tree.Name.{Name}
+use Rattle.dactl_syntax.specs.Canonical.{before_text, comma, bar, word, term_text}
+use Rattle.dactl_syntax.proofs.Written.{separated_more}
+use Rattle.dactl_syntax.proofs.write_items.terms.Goals as goal
+
+pub loop-index-preserved : goal.loop-index-preserved
+loop-index-preserved c =
+    let between : c.before-in-loop-index.new.out.items ≡ c.loop-index.out.items ++ before_text c.loop-index.index comma = search rules in
+    separated_more comma term_text c.args.terms.now c.loop-index.index c.index-terms-index.result c.args.out.now.items c.loop-index.out.items c.before-in-loop-index.new.out.items c.term.new.out.items c.loop-index-test.true c.loop-index.invariant between c.index-terms-index.is c.in_ok-term.ensures

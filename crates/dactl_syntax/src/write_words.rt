@@ -1,0 +1,51 @@
+//! Words of a canonical text.
+
+ghost use Rattle.std.specs.Prelude.{◌≡◌, ◌++◌, OnOk};
+ghost use Rattle.std.specs.Fmt.{signed_decimal};
+ghost use Rattle.dactl_syntax.specs.Canonical as canonical;
+
+use crate::tree::Name;
+use dactl_base::digits::Digits;
+use std::alloc::AllocError;
+
+/// Writes a token and one space.
+pub fn word(out: &mut Vec<u8>, word: &[u8]) -> Result<(), AllocError>
+    ensures { OnOk result (out.new.items ≡ out.old.items ++ canonical.word word.now) }
+{
+    out.extend_from_slice(word)?;
+    out.push(b' ')?;
+    Ok(())
+}
+
+/// Writes `;` and one LF.
+pub fn line_end(out: &mut Vec<u8>) -> Result<(), AllocError>
+    ensures { OnOk result (out.new.items ≡ out.old.items ++ canonical.line_end) }
+{
+    out.push(b';')?;
+    out.push(b'\n')?;
+    Ok(())
+}
+
+pub fn name(out: &mut Vec<u8>, name: &Name) -> Result<(), AllocError>
+    ensures { OnOk result (out.new.items ≡ out.old.items ++ canonical.word name.now.text) }
+{
+    word(out, name.text.as_slice())
+}
+
+pub fn integer(out: &mut Vec<u8>, value: i64) -> Result<(), AllocError>
+    ensures { OnOk result (out.new.items ≡ out.old.items ++ canonical.word (signed_decimal value)) }
+{
+    let mut digits = Digits::new();
+    word(out, digits.text(i128::from(value)))
+}
+
+/// Writes a token before each part but the first, which has the index 0.
+pub fn before(out: &mut Vec<u8>, index: usize, token: &[u8]) -> Result<(), AllocError>
+    ensures { OnOk result (out.new.items ≡ out.old.items ++ canonical.before_text index (canonical.word token.now)) }
+{
+    if index > 0 {
+        word(out, token)?;
+        return Ok(());
+    }
+    Ok(())
+}
