@@ -1,7 +1,6 @@
 use Rattle.std.proofs.Common.{◌≡◌, ◌++◌, map, take}
 use Rattle.std.specs.List.{concat}
-use Rattle.dactl_syntax.specs.declared.tree.Name.{Name}
-use Rattle.dactl_syntax.specs.Canonical.{group_text, item_text}
+use Rattle.dactl_syntax.specs.Canonical.{item_text}
 use Rattle.dactl_syntax.proofs.write_items.items.Given as goal
 
 abbrev pub invariant-loop-one : goal.invariant-loop-one

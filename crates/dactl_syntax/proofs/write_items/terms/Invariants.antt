@@ -1,7 +1,5 @@
 use Rattle.std.proofs.Common.{◌≡◌, ◌++◌, map, take}
-use Rattle.std.specs.List.{concat}
-use Rattle.dactl_syntax.specs.declared.tree.Name.{Name}
-use Rattle.dactl_syntax.specs.Canonical.{separated, comma, bar, word, part_text, rule_text, term_text}
+use Rattle.dactl_syntax.specs.Canonical.{separated, comma, term_text}
 use Rattle.dactl_syntax.proofs.write_items.terms.Given as goal
 
 abbrev pub invariant-loop-index : goal.invariant-loop-index

@@ -1,10 +1,7 @@
-use Rattle.std.proofs.Common.{rules, append_assoc, ◌≡◌, [], List, ℕ, ◌++◌, map, ap, sym, ◌∙◌}
-use Rattle.std.specs.List.{concat}
-use Rattle.dactl_syntax.specs.declared.tree.Sign.{Sign}
-use Rattle.dactl_syntax.specs.declared.tree.PatternTree.{PatternTree}
+use Rattle.std.proofs.Common.{rules, append_assoc, ◌≡◌, []}
 use Rattle.dactl_syntax.specs.declared.write_patterns.Standing.TheVariants as standing
-use Rattle.dactl_syntax.specs.Canonical.{word, pattern_text, tail_text, sign_text}
-use Rattle.dactl_syntax.proofs.Written.{step_more, two_parts, three_parts, piece_binder, piece_chain, piece_sym, bracketed_some}
+use Rattle.dactl_syntax.specs.Canonical.{pattern_text, tail_text, sign_text}
+use Rattle.dactl_syntax.proofs.Written.{step_more, two_parts, piece_binder, piece_chain, piece_sym, bracketed_some}
 use Rattle.dactl_syntax.proofs.write_patterns.+write_patterns.Goals as goal
 
 pub pieces-loop-piece-preserved : goal.pieces-loop-piece-preserved
