@@ -20,6 +20,7 @@ use Rattle.dactl_model.specs.declared.graph.Event.{Event}
 use Rattle.dactl_model.specs.Programs.{IsValid}
 use Rattle.dactl_model.proofs.KeptFire.{begins_well_formed, keeps_well_formed}
 use Rattle.dactl_top.specs.Running.{IsWithin, IsGoing}
+use Rattle.dactl_top.proofs.Symbols.{begins_symbols, keeps_symbols}
 
 pub is_full : (p : Program) (limits : Limits) (g : Graph) (n : NodeId) (r : ℕ) (rule : Rule) (needed left : Room) → slice_get p.rules r ≡ Some rule → IsAllowed p g n r → needed ≡ needed_by rule.body → left ≡ room_left limits g
     → (left.nodes < needed.nodes) ⊎ (left.arcs < needed.arcs) → IsFull p limits g n r needed left
@@ -61,6 +62,7 @@ begins p limits valid within = record {
   reduction = refl;
   fine = begins_well_formed p valid;
   within = within;
+  symbols = begins_symbols p valid;
   worker = All-from_recursion _ [] tt;
 }
 
@@ -71,5 +73,6 @@ goes_on p limits count journal g after n e valid going moved = record {
   reduction = Reduction-push p (start_of p.start) g after journal (record { worker = 1; event = e }) going.reduction moved.0;
   fine = keeps_well_formed p g after e valid going.fine moved.0;
   within = moved.1;
+  symbols = keeps_symbols p g after e valid going.symbols moved.0;
   worker = All-push (λ (entry : Entry). entry.worker ≡ 1) journal (record { worker = 1; event = e }) going.worker refl;
 }

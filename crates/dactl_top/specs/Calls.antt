@@ -1,5 +1,5 @@
 -- Why a call answers as it does, and what it leaves.
-use Rattle.std.specs.Prelude.{◌≡◌, ℕ, ◌<◌, ◌≤◌, List, [], Some, None}
+use Rattle.std.specs.Prelude.{◌≡◌, ℕ, ◌<◌, ◌≤◌, ◌⊎◌, List, [], ◌++◌, length, Some, None}
 use Rattle.std.specs.declared.option.Option.{Option}
 use Rattle.dactl_model.specs.declared.graph.NodeId.{NodeId}
 use Rattle.dactl_model.specs.declared.graph.Graph.{Graph}
@@ -14,7 +14,14 @@ use Rattle.dactl_top.specs.declared.status.Status.TheVariants.{Normal, Budget, U
 use Rattle.dactl_top.specs.Input.{IsWholeText, IsLongText, IsFailedText}
 use Rattle.dactl_top.specs.Running.{IsRun, IsTooSmall, start_room}
 use Rattle.dactl_top.specs.Lines.{line_of, small_line}
-use Rattle.dactl_top.specs.Answering.{IsGiven}
+use Rattle.std.specs.Io.KnownBytes.{Appends}
+use Rattle.dactl_base.specs.Bytes.{AppendsFront}
+use Rattle.dactl_base.specs.Faults.{Rose}
+use Rattle.dactl_model.specs.Programs.{IsValid}
+use Rattle.dactl_model.specs.Firing.{start_of}
+use Rattle.dactl_model.specs.Steps.{Reduction}
+use Rattle.dactl_print.specs.Texts.{end_line}
+use Rattle.dactl_print.specs.Lines.{IsGraphText}
 
 -- nothing is kept yet
 pub record IsEmpty (kept : Kept) : Type 0 where
@@ -137,7 +144,20 @@ pub record IsSmallLine (kept : Kept) (due : List ℕ) : Type 0 where
   pub is_program : kept.program ≡ Some program
   pub line : due ≡ small_line (start_room program)
 
--- the bytes that are due for an answer; of a run they are not said so far
+-- the end line of the kept run, and the graph to which the kept journal leads, below its root
+pub record IsRunText (kept : Kept) (due : List ℕ) : Type 0 where
+  pub program : Program
+  pub ended : End
+  pub graph : Graph
+  pub text : List ℕ
+  pub is_program : kept.program ≡ Some program
+  pub is_end : kept.end ≡ Some ended
+  pub valid : IsValid program
+  pub reduction : Reduction program (start_of program.start) kept.journal.items graph
+  pub is_text : IsGraphText program graph text
+  pub parts : due ≡ end_line ended (length kept.journal.items) ++ text
+
+-- the bytes that are due for an answer
 abbrev pub IsDue : Kept → Status → List ℕ → Type 0
 IsDue kept Usage due = due ≡ line_of Usage
 IsDue kept ReadFault due = due ≡ line_of ReadFault
@@ -145,23 +165,48 @@ IsDue kept Memory due = due ≡ line_of Memory
 IsDue kept TooLong due = due ≡ line_of TooLong
 IsDue kept NotBuilt due = due ≡ line_of NotBuilt
 IsDue kept Small due = IsSmallLine kept due
-IsDue kept Normal due = Unit {0}
-IsDue kept Budget due = Unit {0}
-IsDue kept Full due = Unit {0}
-IsDue kept WriteFault due = Unit {0}
+IsDue kept Normal due = IsRunText kept due
+IsDue kept Budget due = IsRunText kept due
+IsDue kept Full due = IsRunText kept due
+IsDue kept WriteFault due = ⊥
 
--- an answer was wanted, and it was given with its bytes, or the sink failed and took a front of them
+-- an answer of one line alone, alike whatever was read
+abbrev pub IsLine : Status → Type 0
+IsLine Usage = Unit {0}
+IsLine ReadFault = Unit {0}
+IsLine Memory = Unit {0}
+IsLine TooLong = Unit {0}
+IsLine NotBuilt = Unit {0}
+IsLine Normal = ⊥
+IsLine Budget = ⊥
+IsLine Full = ⊥
+IsLine Small = ⊥
+IsLine WriteFault = ⊥
+
+-- the bytes that are due were written
+pub record IsWhole (kept : Kept) (held held' : Option (List ℕ)) (wanted : Status) : Type 0 where
+  pub due : List ℕ
+  pub is_due : IsDue kept wanted due
+  pub grown : Appends held held' due
+
+-- the sink failed, by its own count of faults, and took a front of the bytes that are due
+pub record IsCut (kept : Kept) (held held' : Option (List ℕ)) (faults faults' : ℕ) (wanted : Status) : Type 0 where
+  pub front : (due : List ℕ) → IsDue kept wanted due → AppendsFront held held' due
+  pub rose : Rose faults faults'
+
+-- the wanted answer is given and its bytes are written, or the answer is WriteFault and a front of them is
+abbrev pub IsGiven : Kept → Option (List ℕ) → Option (List ℕ) → ℕ → ℕ → Status → Status → Type 0
+IsGiven kept held held' faults faults' wanted answer =
+    ((answer ≡ wanted) × IsWhole kept held held' wanted) ⊎ ((answer ≡ WriteFault) × IsCut kept held held' faults faults' wanted)
+
+-- an answer was wanted, it has its cause, and it was given
 pub record IsAnswered (call : Call) (held held' : Option (List ℕ)) (faults faults' : ℕ) (answer : Status) : Type 0 where
   pub wanted : Status
-  pub due : List ℕ
   pub cause : HasCause call wanted
-  pub is_due : IsDue call.kept wanted due
-  pub given : IsGiven held held' faults faults' due wanted answer
+  pub given : IsGiven call.kept held held' faults faults' wanted answer
 
 -- the same of the part of a call that has the text
 pub record IsTextAnswered (kept : Kept) (held held' : Option (List ℕ)) (faults faults' : ℕ) (answer : Status) : Type 0 where
   pub wanted : Status
-  pub due : List ℕ
   pub cause : IsKept kept wanted
-  pub is_due : IsDue kept wanted due
-  pub given : IsGiven held held' faults faults' due wanted answer
+  pub given : IsGiven kept held held' faults faults' wanted answer

@@ -14,6 +14,8 @@ use Rattle.dactl_model.specs.Graphs.{IsWellFormed}
 use Rattle.dactl_model.specs.Firing.{start_of}
 use Rattle.dactl_model.specs.Steps.{Step, Reduction}
 use Rattle.dactl_model.specs.Ending.{arcs_of, IsFull, Ends}
+use Rattle.dactl_print.specs.Lines.{HasSymbolsOf}
+use Rattle.dactl_top.specs.declared.run.Finished.{Finished}
 use Rattle.dactl_top.specs.declared.run.Turn.{Turn}
 use Rattle.dactl_top.specs.declared.run.Turn.TheVariants.{Moved, Full}
 use Rattle.dactl_top.specs.declared.run.Outcome.{Outcome}
@@ -46,6 +48,7 @@ pub record IsGoing (p : Program) (limits : Limits) (count : ℕ) (journal : List
   pub reduction : Reduction p (start_of p.start) journal g
   pub fine : IsWellFormed g
   pub within : IsWithin limits g
+  pub symbols : HasSymbolsOf p g
   pub worker : All (λ entry. entry.worker ≡ 1) journal
 
 -- what the first graph takes
@@ -57,7 +60,15 @@ pub record IsTooSmall (limits : Limits) (p : Program) (needed : Room) : Type 0 w
   pub needs : needed ≡ start_room p
   pub above : (limits.nodes < needed.nodes) ⊎ (limits.arcs < needed.arcs)
 
+-- a run that has ended, and its last graph can be printed
+pub record IsFinished (p : Program) (limits : Limits) (finished : Finished) : Type 0 where
+  pub run : IsRun p limits finished.journal.items finished.graph finished.end
+  pub few : length finished.journal.items ≤ limits.budget
+  pub formed : IsWellFormed finished.graph
+  pub within : IsWithin limits finished.graph
+  pub symbols : HasSymbolsOf p finished.graph
+
 -- what comes of a program: its first graph does not fit, or it ran
 abbrev pub IsOutcome : Program → Limits → Outcome → Type 0
 IsOutcome p limits (Small needed) = IsTooSmall limits p needed
-IsOutcome p limits (Ran finished) = IsRun p limits finished.journal.items finished.graph finished.end
+IsOutcome p limits (Ran finished) = IsFinished p limits finished

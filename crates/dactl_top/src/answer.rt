@@ -1,20 +1,20 @@
-//! Writing an answer.
+//! Writing an answer of one line.
 
 ghost use Rattle.std.specs.Prelude.{◌≡◌};
 ghost use Rattle.dactl_top.specs.Lines.{line_of};
-ghost use Rattle.dactl_top.specs.Answering.{IsGiven};
+ghost use Rattle.dactl_top.specs.Answering.{Writes};
+ghost use Rattle.dactl_top.specs.Calls.{IsLine, IsGiven};
+ghost use Rattle.dactl_top.specs.declared.kept.Kept.{Kept};
 
 use crate::status::Status;
 use dactl_base::sink::{Sink, write_all};
+use dactl_base::source::Failed;
 
-/// Writes all the bytes that are due, and gives the wanted answer, or WriteFault.
-pub fn give<K: Sink>(sink: &mut K, due: &[u8], wanted: Status) -> Status
-    ensures { IsGiven (K.holds sink.old) (K.holds sink.new) (K.faults sink.old) (K.faults sink.new) due.now wanted result }
+/// Writes all the bytes that are due.
+pub fn write_line<K: Sink>(sink: &mut K, due: &[u8]) -> Result<(), Failed>
+    ensures { Writes (K.holds sink.old) (K.holds sink.new) (K.faults sink.old) (K.faults sink.new) due.now result }
 {
-    match write_all(sink, due) {
-        Ok(()) => wanted,
-        Err(_) => Status::WriteFault,
-    }
+    write_all(sink, due)
 }
 
 fn line(status: Status) -> &'static [u8]
@@ -30,9 +30,13 @@ fn line(status: Status) -> &'static [u8]
     }
 }
 
-/// Answers by one line.
+/// Answers by one line: the wanted answer, or WriteFault where the sink fails.
 pub fn give_line<K: Sink>(sink: &mut K, wanted: Status) -> Status
-    ensures { IsGiven (K.holds sink.old) (K.holds sink.new) (K.faults sink.old) (K.faults sink.new) (line_of wanted) wanted result }
+    requires { IsLine wanted }
+    ensures { (kept : Kept) → IsGiven kept (K.holds sink.old) (K.holds sink.new) (K.faults sink.old) (K.faults sink.new) wanted result }
 {
-    give(sink, line(wanted), wanted)
+    match write_line(sink, line(wanted)) {
+        Ok(()) => wanted,
+        Err(_) => Status::WriteFault,
+    }
 }

@@ -3,10 +3,11 @@
 ghost use Rattle.std.specs.Prelude.{◌≡◌, ◌<◌, ◌≤◌, ◌⊎◌, length, IfOk, OnErr, None};
 ghost use Rattle.dactl_base.specs.Faults.{Rose};
 ghost use Rattle.dactl_model.specs.Programs.{IsValid};
-ghost use Rattle.dactl_top.specs.Calls.{IsEmpty, HasNoRun, HasNoProgram, IsStatusOf, IsKept, IsDue, IsTextAnswered, IsAnswered, HasRun, HasFullRun, HasSmall};
+ghost use Rattle.dactl_top.specs.Calls.{IsEmpty, HasNoRun, HasNoProgram, IsStatusOf, IsTextAnswered, IsAnswered, HasRun, HasFullRun, HasSmall, limits};
+ghost use Rattle.dactl_top.specs.Running.{IsTooSmall, IsFinished};
 ghost use Rattle.dactl_top.specs.Input.{longest};
 
-use crate::answer::{give, give_line};
+use crate::answer::{give_line, write_line};
 use crate::input::{Input, read_all};
 use crate::kept::Kept;
 use crate::output;
@@ -14,8 +15,9 @@ use crate::run::{Finished, Outcome, run};
 use crate::status::Status;
 use dactl_base::sink::Sink;
 use dactl_base::source::Source;
-use dactl_model::graph::{End, Limits};
+use dactl_model::graph::{End, Limits, Room};
 use dactl_model::program::Program;
+use dactl_print::printer::Numbering;
 use dactl_syntax::first::{FirstFault, parse_first};
 use std::alloc::{AllocError, Global};
 
@@ -36,38 +38,59 @@ fn status_of(end: End) -> Status
     }
 }
 
-// Runs the program, keeps it with its run, and gives the answer with its bytes.
-fn run_and_keep(
+// Keeps a program whose first graph does not fit, and tells what that graph needs.
+fn answer_small<K: Sink>(
     alloc: Global,
+    sink: &mut K,
     program: Program,
+    needed: Room,
     kept: &mut Kept,
-) -> Result<(Status, Vec<u8>), AllocError>
-    requires program { IsValid program }
-    requires none { HasNoRun kept.old }
-    ensures ran { IfOk result (λ answer. IsKept kept.new answer.0) }
-    ensures due { IfOk result (λ answer. IsDue kept.new answer.0 answer.1.items) }
+) -> Status
+    requires small { IsTooSmall limits program needed }
+    requires none { HasNoProgram kept.old }
+    ensures answered { IsTextAnswered kept.new (K.holds sink.old) (K.holds sink.new) (K.faults sink.old) (K.faults sink.new) result }
     ensures text { kept.new.text ≡ kept.old.text }
-    ensures none { OnErr result (HasNoRun kept.new) }
 {
-    match run(alloc, &program, LIMITS)? {
-        Outcome::Small { needed } => {
-            let due = output::of_small(alloc, needed)?;
-            kept.program = Some(program);
-            Ok((Status::Small, due))
-        }
-        Outcome::Ran(
-            Finished {
-                journal,
-                graph,
-                end,
-            },
-        ) => {
-            let due = output::of_run(alloc, &program, &graph, end, journal.len())?;
-            kept.program = Some(program);
-            kept.journal = journal;
-            kept.end = Some(end);
-            Ok((status_of(end), due))
-        }
+    let Ok(due) = output::of_small(alloc, needed) else {
+        return give_line(sink, Status::Memory);
+    };
+    kept.program = Some(program);
+    match write_line(sink, due.as_slice()) {
+        Ok(()) => Status::Small,
+        Err(_) => Status::WriteFault,
+    }
+}
+
+// Keeps a program and its run, and writes the output of the run.
+fn answer_run<K: Sink>(
+    alloc: Global,
+    sink: &mut K,
+    program: Program,
+    finished: Finished,
+    kept: &mut Kept,
+) -> Status
+    requires valid { IsValid program }
+    requires finished { IsFinished program limits finished }
+    requires none { HasNoProgram kept.old }
+    ensures answered { IsTextAnswered kept.new (K.holds sink.old) (K.holds sink.new) (K.faults sink.old) (K.faults sink.new) result }
+    ensures text { kept.new.text ≡ kept.old.text }
+{
+    let Ok(mut numbering) = Numbering::with_room(alloc, LIMITS.nodes) else {
+        return give_line(sink, Status::Memory);
+    };
+    let Finished {
+        journal,
+        graph,
+        end,
+    } = finished;
+    let entries = journal.as_slice().len() as u32;
+    let written = output::write_run(&program, &graph, end, entries, &mut numbering, sink);
+    kept.program = Some(program);
+    kept.journal = journal;
+    kept.end = Some(end);
+    match written {
+        Ok(()) => status_of(end),
+        Err(_) => Status::WriteFault,
     }
 }
 
@@ -82,9 +105,39 @@ fn answer_text<K: Sink>(alloc: Global, sink: &mut K, kept: &mut Kept) -> Status
         Err(FirstFault::NotBuilt) => return give_line(sink, Status::NotBuilt),
         Err(FirstFault::Memory) => return give_line(sink, Status::Memory),
     };
-    match run_and_keep(alloc, program, kept) {
-        Ok((status, due)) => give(sink, due.as_slice(), status),
+    match run(alloc, &program, LIMITS) {
+        Ok(Outcome::Small { needed }) => answer_small(alloc, sink, program, needed, kept),
+        Ok(Outcome::Ran(finished)) => answer_run(alloc, sink, program, finished, kept),
         Err(AllocError) => give_line(sink, Status::Memory),
+    }
+}
+
+// The whole of a call.
+fn answer<S: Source, K: Sink>(
+    alloc: Global,
+    words: &[String],
+    source: &mut S,
+    sink: &mut K,
+    kept: &mut Kept,
+) -> Status
+    requires { IsEmpty kept.old }
+    ensures { IsAnswered (record {
+      words = length words.now;
+      left = S.left source.old;
+      left_after = S.left source.new;
+      faults = S.faults source.old;
+      faults_after = S.faults source.new;
+      kept = kept.new;
+    }) (K.holds sink.old) (K.holds sink.new) (K.faults sink.old) (K.faults sink.new) result }
+{
+    if words.len() > 1 {
+        return give_line(sink, Status::Usage);
+    }
+    match read_all(source, &mut kept.text) {
+        Input::Failed => give_line(sink, Status::ReadFault),
+        Input::TooLong => give_line(sink, Status::TooLong),
+        Input::Short => give_line(sink, Status::Memory),
+        Input::Whole => answer_text(alloc, sink, kept),
     }
 }
 
@@ -118,13 +171,5 @@ pub fn dactl<S: Source, K: Sink>(
     ensures full { result ≡ Status.Full → HasFullRun kept.new }
     ensures small { result ≡ Status.Small → HasSmall kept.new }
 {
-    if words.len() > 1 {
-        return give_line(sink, Status::Usage);
-    }
-    match read_all(source, &mut kept.text) {
-        Input::Failed => give_line(sink, Status::ReadFault),
-        Input::TooLong => give_line(sink, Status::TooLong),
-        Input::Short => give_line(sink, Status::Memory),
-        Input::Whole => answer_text(alloc, sink, kept),
-    }
+    answer(alloc, words, source, sink, kept)
 }

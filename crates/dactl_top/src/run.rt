@@ -3,7 +3,7 @@ ghost use Rattle.dactl_model.specs.Graphs.{HasNode, IsWellFormed};
 ghost use Rattle.dactl_model.specs.Programs.{IsValid};
 ghost use Rattle.dactl_model.specs.Matching.{IsActive, IsAllowed, Matches};
 ghost use Rattle.dactl_model.specs.Firing.{start_of};
-ghost use Rattle.dactl_top.specs.Running.{IsWithin, IsTurn, IsRun, IsOutcome};
+ghost use Rattle.dactl_top.specs.Running.{IsWithin, IsTurn, IsFinished, IsOutcome};
 
 use crate::scan::{exceeds, first_active, left_of, room_needed, start_needs};
 use dactl_model::graph::{End, Entry, Event, Graph, Limits, NodeId, Room};
@@ -108,7 +108,7 @@ pub enum Outcome {
 fn run_on(alloc: Global, program: &Program, limits: Limits) -> Result<Finished, AllocError>
     requires program { IsValid program.now }
     requires within { IsWithin limits (start_of program.now.start) }
-    ensures { IfOk result (λ f. IsRun program.now limits f.journal.items f.graph f.end) }
+    ensures { IfOk result (IsFinished program.now limits) }
 {
     let mut graph = start_graph(alloc, program)?;
     let mut journal = Vec::new(alloc);

@@ -1,0 +1,20 @@
+use Rattle.std.proofs.Common.{◌≡◌, rules}
+use Rattle.dactl_top.specs.declared.status.Status.TheVariants.{Normal, Budget, Usage, Full, ReadFault, WriteFault, TooLong, Small}
+use Rattle.dactl_top.proofs.Causes.{cause_of, fault_of, only_usage}
+use Rattle.dactl_top.proofs.call.dactl.Goals as goal
+
+pub returns : goal.returns
+returns g c =
+    let whole = c.answer.ensures in
+    record {
+      answered = whole;
+      usage = λ is. (cause_of _ _ _ _ _ _ Usage whole (λ e. cc) is).words;
+      only_usage = only_usage _ _ _ _ _ _ whole;
+      read_fault = λ is. (cause_of _ _ _ _ _ _ ReadFault whole (λ e. cc) is).text.rose;
+      write_fault = fault_of _ _ _ _ _ _ whole;
+      too_long = λ is. (cause_of _ _ _ _ _ _ TooLong whole (λ e. cc) is).text.above;
+      normal = λ is. (cause_of _ _ _ _ _ _ Normal whole (λ e. cc) is).kept;
+      budget = λ is. (cause_of _ _ _ _ _ _ Budget whole (λ e. cc) is).kept;
+      full = λ is. (cause_of _ _ _ _ _ _ Full whole (λ e. cc) is).kept;
+      small = λ is. (cause_of _ _ _ _ _ _ Small whole (λ e. cc) is).kept;
+    }
