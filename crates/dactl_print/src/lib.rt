@@ -6,5 +6,7 @@ pub mod laws;
 mod lines;
 mod page;
 pub mod printer;
+#[cfg(test)]
+mod tests;
 mod texts;
 mod walk;
