@@ -1,10 +1,10 @@
 -- What follows from the whole of an answer, for each answer.
-use Rattle.std.proofs.Common.{◌≡◌, ◌≢◌, ℕ, ◌<◌, ◌≤◌, ◌⊎◌, List, refl, sym, ◌∙◌, subst, inl, inr, arith}
+use Rattle.std.proofs.Common.{◌≡◌, ℕ, ◌<◌, ◌⊎◌, List, refl, sym, ◌∙◌, subst, inl, inr, arith}
 use Rattle.std.specs.declared.option.Option.{Option}
 use Rattle.dactl_base.specs.Faults.{Rose}
 use Rattle.dactl_top.specs.declared.status.Status.{Status}
 use Rattle.dactl_top.specs.declared.status.Status.TheVariants.{Normal, Budget, Usage, Full, ReadFault, WriteFault, Memory, TooLong, Small, NotBuilt}
-use Rattle.dactl_top.specs.Calls.{Call, HasCause, IsGiven, IsAnswered, HasUsage}
+use Rattle.dactl_top.specs.Calls.{Call, HasCause, IsAnswered}
 
 -- an answer other than WriteFault has its cause
 pub cause_of : (call : Call) (held held' : Option (List ℕ)) (faults faults' : ℕ) (answer wanted : Status) → IsAnswered call held held' faults faults' answer → (wanted ≡ WriteFault → ⊥) → answer ≡ wanted → HasCause call wanted

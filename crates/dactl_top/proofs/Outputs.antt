@@ -1,10 +1,9 @@
 -- What is due for an answer, and that it is one text.
-use Rattle.std.proofs.Common.{◌≡◌, ℕ, ◌≤◌, ◌<◌, ◌⊎◌, List, ◌++◌, length, Some, refl, sym, ap, ◌∙◌, subst, inl, inr}
+use Rattle.std.proofs.Common.{◌≡◌, ℕ, List, ◌++◌, length, Some, refl, sym, ap, ◌∙◌, subst, inl, inr}
 use Rattle.std.specs.declared.option.Option.{Option}
 use Rattle.std.specs.Io.KnownBytes.{Appends}
 use Rattle.dactl_base.specs.Bytes.{AppendsFront}
 use Rattle.dactl_base.specs.Faults.{Rose}
-use Rattle.dactl_model.specs.declared.graph.NodeId.{NodeId}
 use Rattle.dactl_model.specs.declared.graph.Graph.{Graph}
 use Rattle.dactl_model.specs.declared.graph.Room.{Room}
 use Rattle.dactl_model.specs.declared.graph.End.{End}
@@ -17,14 +16,13 @@ use Rattle.dactl_model.proofs.KeptFire.{begins_well_formed}
 use Rattle.dactl_model.proofs.Reductions.{has_one_reduction}
 use Rattle.dactl_print.specs.Texts.{end_line}
 use Rattle.dactl_print.specs.Lines.{IsGraphText}
-use Rattle.dactl_print.proofs.OneOrder.{has_one_text}
 use Rattle.dactl_top.specs.declared.kept.Kept.{Kept}
 use Rattle.dactl_top.specs.declared.status.Status.{Status}
 use Rattle.dactl_top.specs.declared.status.Status.TheVariants.{Normal, Budget, Usage, Full, ReadFault, WriteFault, Memory, TooLong, Small, NotBuilt}
 use Rattle.dactl_top.specs.Lines.{line_of, small_line}
 use Rattle.dactl_top.specs.Running.{IsRun, IsTooSmall, start_room}
 use Rattle.dactl_top.specs.Answering.{IsCutShort}
-use Rattle.dactl_top.specs.Calls.{limits, HasNoRun, HasRun, HasFullRun, HasSmall, IsKept, IsStatusOf, IsSmallLine, IsRunText, IsDue, IsLine, IsWhole, IsCut, IsGiven, IsTextAnswered}
+use Rattle.dactl_top.specs.Calls.{limits, HasNoRun, HasSmall, IsKept, IsStatusOf, IsSmallLine, IsRunText, IsDue, IsLine, IsGiven, IsTextAnswered}
 
 -- ---- so many entries
 

@@ -1,5 +1,5 @@
 -- The symbols of each graph of a run are those of the program.
-use Rattle.std.proofs.Common.{◌≡◌, ℕ, ◌+◌, ◌<◌, ◌≤◌, Bool, true, false, List, [], ◌∷◌, ◌++◌, length, map, sym, subst, arith}
+use Rattle.std.proofs.Common.{ℕ, ◌+◌, ◌≤◌, Bool, true, false, List, [], ◌∷◌, length, map, sym, subst, arith}
 use Rattle.std.proofs.lemmas.List.Elements.{All-map, All-append, All-from_recursion, recursion_from_All}
 use Rattle.std.specs.List.{AllByRecursion}
 use Rattle.std.specs.Prelude.{All}
@@ -11,16 +11,15 @@ use Rattle.dactl_model.specs.declared.graph.Graph.{Graph}
 use Rattle.dactl_model.specs.declared.graph.Event.{Event}
 use Rattle.dactl_model.specs.declared.graph.Event.TheVariants.{Fire, Note}
 use Rattle.dactl_model.specs.declared.program.FreshNode.{FreshNode}
-use Rattle.dactl_model.specs.declared.program.Move.{Move}
 use Rattle.dactl_model.specs.declared.program.Op.{Op}
 use Rattle.dactl_model.specs.declared.program.Op.TheVariants.{Add, Sub, Mul, Eq, Lt}
 use Rattle.dactl_model.specs.declared.program.Body.{Body}
 use Rattle.dactl_model.specs.declared.program.Body.TheVariants.{Written, Delta}
 use Rattle.dactl_model.specs.declared.program.Program.{Program}
-use Rattle.dactl_model.specs.Matching.{truth, delta, delta_label, operand}
-use Rattle.dactl_model.specs.Programs.{IsValid, IsLabel, IsFreshNode, IsBody, AreFreshNodes}
+use Rattle.dactl_model.specs.Matching.{truth, delta_label}
+use Rattle.dactl_model.specs.Programs.{IsValid, IsLabel, IsFreshNode, IsBody}
 use Rattle.dactl_model.specs.Firing.{old_nodes, fresh_node, new_nodes, redirection, redirections, woken_variables, fired, start_of}
-use Rattle.dactl_model.specs.Noting.{noted_nodes, noted}
+use Rattle.dactl_model.specs.Noting.{noted_nodes}
 use Rattle.dactl_model.specs.Steps.{Step}
 use Rattle.dactl_print.specs.Lines.{IsLabelAmong, HasSymbolsOf}
 

@@ -1,5 +1,5 @@
 -- How bytes and answers reach the sink.
-use Rattle.std.specs.Prelude.{◌≡◌, ℕ, ◌⊎◌, List, Result, OnOk, OnErr}
+use Rattle.std.specs.Prelude.{ℕ, List, Result, OnOk, OnErr}
 use Rattle.std.specs.declared.option.Option.{Option}
 use Rattle.std.specs.Io.KnownBytes.{Appends}
 use Rattle.dactl_base.specs.Bytes.{AppendsFront}

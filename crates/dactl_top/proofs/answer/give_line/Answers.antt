@@ -1,4 +1,4 @@
-use Rattle.std.proofs.Common.{rules, subst}
+use Rattle.std.proofs.Common.{subst}
 use Rattle.std.specs.Io.KnownBytes.{Appends}
 use Rattle.dactl_top.specs.Answering.{IsCutShort}
 use Rattle.dactl_top.proofs.Outputs.{line_given, line_cut}

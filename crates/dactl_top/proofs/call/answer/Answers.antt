@@ -1,4 +1,4 @@
-use Rattle.std.proofs.Common.{refl, rules, arith}
+use Rattle.std.proofs.Common.{refl, rules}
 use Rattle.dactl_top.specs.declared.status.Status.TheVariants.{Usage, ReadFault, TooLong, Memory}
 use Rattle.dactl_top.proofs.call.answer.Goals as goal
 

@@ -1,5 +1,4 @@
-use Rattle.std.proofs.Common.{◌≡◌, rules}
-use Rattle.dactl_top.specs.declared.status.Status.TheVariants.{Normal, Budget, Usage, Full, ReadFault, WriteFault, TooLong, Small}
+use Rattle.dactl_top.specs.declared.status.Status.TheVariants.{Normal, Budget, Usage, Full, ReadFault, TooLong, Small}
 use Rattle.dactl_top.proofs.Causes.{cause_of, fault_of, only_usage}
 use Rattle.dactl_top.proofs.call.dactl.Goals as goal
 

@@ -1,4 +1,4 @@
-use Rattle.std.proofs.Common.{◌≡◌, List, ℕ, ◌++◌, [], rules, ap, ◌∙◌, append-nil}
+use Rattle.std.proofs.Common.{List, ℕ, ◌++◌, ap, ◌∙◌, append-nil}
 use Rattle.dactl_print.specs.Texts.{end_line}
 use Rattle.dactl_print.proofs.Pieces.{prints_then}
 use Rattle.dactl_print.proofs.OneOrder.{has_one_text}
