@@ -1,7 +1,9 @@
 use crate::call::dactl;
 use crate::kept::Kept;
-use crate::status::Status;
+use crate::run::{Outcome, run};
 use dactl_base::memory::{MemorySink, MemorySource};
+use dactl_model::graph::{End, Limits, NodeId, Room};
+use dactl_syntax::first::parse_first;
 use std::alloc::AllocError;
 
 const APPEND: &str =
@@ -62,6 +64,21 @@ fn texts_have_their_answers(rt: HostRuntime) -> Result<(), AllocError> {
             0,
             "normal 1\n@1 F[@2]\n@2 A\n",
         ),
+        (
+            "MODULE M; SYMBOL REWRITABLE Both; SYMBOL CREATABLE A, B; RULE Both[A A] => *B; INITIAL => ##Both[^*A ^*A]; ENDMODULE M;",
+            0,
+            "normal 4\n@1 B\n",
+        ),
+        (
+            "MODULE M; SYMBOL REWRITABLE F, G; SYMBOL CREATABLE A, B; RULE G[A] => *B; F => *A; INITIAL => #G[^*F]; ENDMODULE M;",
+            0,
+            "normal 4\n@1 B\n",
+        ),
+        (
+            "MODULE M; SYMBOL REWRITABLE Mk, Both; SYMBOL CREATABLE A, B; RULE Mk[x] => ##Both[^*x ^x]; Both[A A] => *B; INITIAL => *Mk[A]; ENDMODULE M;",
+            0,
+            "normal 4\n@1 B\n",
+        ),
         ("", 10, "not built\n"),
     ] {
         assert!(rt; answers(&rt, &["dactl"], text, code, output)?, "{text}");
@@ -103,5 +120,37 @@ fn texts_have_a_greatest_length(rt: HostRuntime) -> Result<(), AllocError> {
         let _status = dactl(alloc, &words, &mut source, &mut sink, &mut kept);
         assert_eq!(rt; sink.held(), line.as_bytes(), "{spaces} spaces");
     }
+    Ok(())
+}
+
+// What comes of a text with so much room.
+fn outcome(rt: &HostRuntime, text: &str, nodes: u32, arcs: u32) -> Result<Outcome, AllocError> {
+    let limits = Limits {
+        nodes,
+        arcs,
+        budget: 10,
+    };
+    match parse_first(rt.alloc(), text.as_bytes()) {
+        Ok(program) => run(rt.alloc(), &program, limits),
+        Err(_) => Err(AllocError),
+    }
+}
+
+#[test]
+fn runs_keep_to_their_room(rt: HostRuntime) -> Result<(), AllocError> {
+    let full = End::Full {
+        node: NodeId { number: 1 },
+        rule: 5,
+        needed: Room { nodes: 1, arcs: 0 },
+        left: Room { nodes: 0, arcs: 8 },
+    };
+    let text =
+        "MODULE M; SYMBOL REWRITABLE Loop; RULE Loop => *Loop; INITIAL => *Loop; ENDMODULE M;";
+    let looping = outcome(&rt, text, 2, 8)?;
+    assert!(rt; matches!(&looping, Outcome::Ran(finished) if finished.end == full));
+    let text = "MODULE M; SYMBOL CREATABLE F, A; INITIAL => #F[^A]; ENDMODULE M;";
+    let waiting = outcome(&rt, text, 1, 4)?;
+    let needs = Room { nodes: 2, arcs: 1 };
+    assert!(rt; matches!(&waiting, Outcome::Small { needed } if *needed == needs));
     Ok(())
 }
