@@ -12,12 +12,13 @@ use Rattle.dactl_model.specs.declared.program.Program.{Program}
 use Rattle.dactl_model.specs.Matching.{IsAllowed, Matches}
 use Rattle.dactl_model.specs.Firing.{IsFired, fired, start_of}
 use Rattle.dactl_model.specs.Noting.{noted}
-use Rattle.dactl_model.specs.Steps.{Step, Reduction}
+use Rattle.dactl_model.specs.Steps.{Step}
 use Rattle.dactl_model.specs.Ending.{IsFull, needed_by, room_left, arcs_of}
 use Rattle.dactl_model.proofs.Sizes.{nodes-fired, arcs-fired, nodes-noted, arcs-noted}
 use Rattle.std.proofs.lemmas.List.Elements.{All-push, All-from_recursion}
 use Rattle.dactl_model.specs.declared.graph.Event.{Event}
 use Rattle.dactl_model.specs.Programs.{IsValid}
+use Rattle.dactl_model.proofs.Reductions.{Reduction-push}
 use Rattle.dactl_model.proofs.KeptFire.{begins_well_formed, keeps_well_formed}
 use Rattle.dactl_top.specs.Running.{IsWithin, IsGoing}
 use Rattle.dactl_top.proofs.Symbols.{begins_symbols, keeps_symbols}
@@ -51,10 +52,6 @@ within_noted limits g g' n within is = subst (IsWithin limits) (sym is) (record 
 
 pub matches_within : (p : Program) (g : Graph) (n : NodeId) (r : ℕ) (h : List NodeId) → Matches p g n r h → r < length p.rules
 matches_within p g n r h match = elim (cases_lt r (length p.rules)) [ inl below ↦ below | inr past ↦ absurd (rw (slice_get_past p.rules r past) at match) ]
-
-pub Reduction-push : (p : Program) (g mid after : Graph) (journal : List Entry) (entry : Entry) → Reduction p g journal mid → Step p mid entry.event after → Reduction p g (journal ++ entry ∷ []) after
-Reduction-push p g mid after [] entry run step = (after, subst (λ x. Step p x entry.event after) run step, refl)
-Reduction-push p g mid after (first ∷ journal) entry run step = (run.0, run.1, Reduction-push p run.0 mid after journal entry run.2 step)
 
 pub begins : (p : Program) (limits : Limits) → IsValid p → IsWithin limits (start_of p.start) → IsGoing p limits 0 [] (start_of p.start)
 begins p limits valid within = record {
