@@ -19,7 +19,7 @@ Below count v p = variables_below count p ≡ true → binds v p ≡ true → v 
 abbrev pub Passes : ℕ → Pat → Type 0
 Passes count p = ((v : ℕ) → binds v p ≡ true → v < count) → variables_below count p ≡ true
 
-variables_roll : (count : ℕ) (x : Pat-F Pat) → variables_below count (roll-Pat x) ≡ variables_level count (map-Pat Pat Bool (variables_below count) x)
+pub variables_roll : (count : ℕ) (x : Pat-F Pat) → variables_below count (roll-Pat x) ≡ variables_level count (map-Pat Pat Bool (variables_below count) x)
 variables_roll count x = fold-roll-Pat Bool (variables_level count) x
 
 below_opened : (count v : ℕ) (x : Pat-F Pat) → (variables_level count (map-Pat Pat Bool (variables_below count) x) ≡ true → binds_level v (map-Pat Pat Bool (binds v) x) ≡ true → v < count) → Below count v (roll-Pat x)

@@ -166,37 +166,45 @@ fn rules(alloc: Global) -> Result<Items<Rule>, Memory> {
     Ok(all)
 }
 
-/// `##Both[^*A ^*A]`, where the second arc leads to the node of this number.
-fn start(alloc: Global, second: u32) -> Result<Start, Memory> {
+/// `##Both` with two flagged arcs, to the nodes of these numbers among active `A`s, which have the
+/// numbers from 1 up to the greater of the two.
+fn start(alloc: Global, targets: [u32; 2]) -> Result<Start, Memory> {
+    let [first, second] = targets;
     let flagged = |node| FreshArc {
         to: Mention::Fresh(node),
         waits: true,
     };
     let mut fresh = Items::new(alloc);
-    fresh.push(node(alloc, 7, Mark::Waiting(2), &[flagged(1), flagged(second)])?)?;
-    fresh.push(node(alloc, 8, Mark::Active, &[])?)?;
-    fresh.push(node(alloc, 8, Mark::Active, &[])?)?;
+    fresh.push(node(
+        alloc,
+        7,
+        Mark::Waiting(2),
+        &[flagged(first), flagged(second)],
+    )?)?;
+    for _ in 0..first.max(second) {
+        fresh.push(node(alloc, 8, Mark::Active, &[])?)?;
+    }
     Ok(Start { fresh, root: 0 })
 }
 
-fn both(alloc: Global, second: u32) -> Result<Program, Memory> {
+fn both(alloc: Global, targets: [u32; 2]) -> Result<Program, Memory> {
     Ok(Program {
         symbols: symbols(alloc)?,
         rules: rules(alloc)?,
-        start: start(alloc, second)?,
+        start: start(alloc, targets)?,
     })
 }
 
-/// With two arcs to one node, both notifications come at once, and the other node's own is for
-/// nobody.
+/// `##Both[^*A ^*A]` takes a notification from each `A`, and `##Both[^*x:A ^x]` takes both from
+/// one.
 #[test]
 fn both_waits_for_each_of_its_arcs(rt: HostRuntime) -> Result<(), Fail> {
-    for second in [1, 2] {
-        let program = both(rt.alloc(), second)?;
+    for (targets, entries, root) in [([1, 2], 4, 3), ([1, 1], 3, 2)] {
+        let program = both(rt.alloc(), targets)?;
         assert!(rt; is_valid(&program));
         let (graph, steps) = run(rt.alloc(), &program)?;
-        assert_eq!(rt; steps, 4);
-        assert_eq!(rt; graph.root, NodeId { number: 3 });
+        assert_eq!(rt; steps, entries);
+        assert_eq!(rt; graph.root, NodeId { number: root });
     }
     Ok(())
 }
@@ -213,9 +221,17 @@ fn notified(alloc: Global, program: &Program) -> Result<Option<Graph>, Memory>
     stepped_at(alloc, program, &graph, 2)
 }
 
-/// Whether the root may fire by the last rule once it is notified, the number of its bindings, and
-/// the graph after that.
-fn fired_root(alloc: Global, program: &Program) -> Result<Option<(bool, usize, Graph)>, Memory>
+/// What was found at the root, and the graph after it has fired.
+#[derive(Drop)]
+struct Fired {
+    mark: Mark,
+    is_allowed: bool,
+    bindings: usize,
+    after: Graph,
+}
+
+/// The root once it is notified, by the last rule.
+fn fired_root(alloc: Global, program: &Program) -> Result<Option<Fired>, Memory>
     requires { IsValid program.now }
 {
     let Some(graph) = notified(alloc, program)? else {
@@ -225,6 +241,10 @@ fn fired_root(alloc: Global, program: &Program) -> Result<Option<(bool, usize, G
         return Ok(None);
     }
     let root = NodeId { number: 0 };
+    let Some(node) = graph.nodes.as_slice().first() else {
+        return Ok(None);
+    };
+    let mark = node.mark;
     let is_allowed = allowed(alloc, program, &graph, root, 5)?;
     let Some(bindings) = matches(alloc, program, &graph, root, 5)? else {
         return Ok(None);
@@ -232,18 +252,37 @@ fn fired_root(alloc: Global, program: &Program) -> Result<Option<(bool, usize, G
     let Some(after) = stepped_at(alloc, program, &graph, 0)? else {
         return Ok(None);
     };
-    Ok(Some((is_allowed, bindings.len(), after)))
+    Ok(Some(Fired {
+        mark,
+        is_allowed,
+        bindings: bindings.len(),
+        after,
+    }))
+}
+
+/// Whether the graph has four nodes, and its root is the last, an active `B`.
+fn ends_with_an_active_b(graph: &Graph) -> bool {
+    let nodes = graph.nodes.as_slice();
+    match nodes.last() {
+        Some(last) => {
+            nodes.len() == 4
+                && graph.root.number == 3
+                && last.label == Label::Symbol(9)
+                && last.mark == Mark::Active
+        }
+        None => false,
+    }
 }
 
 #[test]
 fn both_fires_once_it_is_notified(rt: HostRuntime) -> Result<(), Fail> {
-    let program = both(rt.alloc(), 2)?;
+    let program = both(rt.alloc(), [1, 2])?;
     assert!(rt; is_valid(&program));
-    let (is_allowed, bindings, graph) = fired_root(rt.alloc(), &program)?.ok_or("no step")?;
-    assert!(rt; is_allowed);
-    assert_eq!(rt; bindings, 0);
-    assert_eq!(rt; graph.nodes.len(), 4);
-    assert_eq!(rt; graph.root, NodeId { number: 3 });
+    let fired = fired_root(rt.alloc(), &program)?.ok_or("no step")?;
+    assert_eq!(rt; fired.mark, Mark::Active);
+    assert!(rt; fired.is_allowed);
+    assert_eq!(rt; fired.bindings, 0);
+    assert!(rt; ends_with_an_active_b(&fired.after));
     Ok(())
 }
 
@@ -262,7 +301,7 @@ fn first_choices(alloc: Global, program: &Program) -> Result<Option<(Choice, Cho
 
 #[test]
 fn both_rests_at_first(rt: HostRuntime) -> Result<(), Fail> {
-    let program = both(rt.alloc(), 2)?;
+    let program = both(rt.alloc(), [1, 2])?;
     assert!(rt; is_valid(&program));
     let (first, second) = first_choices(rt.alloc(), &program)?.ok_or("small")?;
     assert!(rt; matches!(first, Choice::Resting));
