@@ -1,0 +1,5 @@
+pub mod Woken
+pub mod Settled
+pub mod Made
+pub mod Moves
+pub mod Ready

@@ -1,0 +1,4 @@
+pub mod Body
+pub mod Fired
+pub mod Site
+pub mod Waking

@@ -1,0 +1,160 @@
+//! The parts of a firing.
+
+ghost use Rattle.std.specs.Prelude.{◌≡◌, ◌+◌, ◌<◌, ◌≤◌, All, length, take};
+ghost use Rattle.dactl_model.specs.declared.program.Body.TheVariants.{Written, Delta};
+ghost use Rattle.dactl_model.specs.Ending.{needed_by};
+ghost use Rattle.dactl_model.specs.Firing.{left_node, rewritten, fired};
+ghost use Rattle.dactl_model.specs.Matching.{bound_node, FitsWord, delta_label};
+ghost use Rattle.dactl_store.specs.Held.{IsValid, left_in};
+ghost use Rattle.dactl_store.specs.Redirecting.{AreNodes, sent, redirected, IsVersioned};
+ghost use Rattle.dactl_store.specs.Start.{Fits};
+ghost use Rattle.dactl_firing.specs.Site.{IsNamedLeft, IsNamedMove, pair_of, pairs_of, IsSiteIn, IsSettled, IsWrittenFor, IsMade};
+ghost use Rattle.dactl_firing.specs.Body.{CanMake};
+
+use crate::arithmetic::{integer_at, result_label};
+use crate::waking::{list_new, wake_all};
+use dactl_model::footprint::Woken;
+use dactl_model::graph::{Label, Mark, NodeId};
+use dactl_model::program::{Body, FreshNode, Left, Move, Op};
+use dactl_store::{Store, mentioned_node};
+
+/// Where a rule fires: the node, those of the rule's variables, and the number of the entry, which is the
+/// version of what the firing changes.
+#[derive(Clone, Copy)]
+pub struct Site<'a> {
+    pub node: NodeId,
+    pub bindings: &'a [NodeId],
+    pub entry: u32,
+}
+
+impl Site<'_> {
+    // The node that the left side of a redirection denotes.
+    fn left(&self, left: Left) -> NodeId
+        requires { IsNamedLeft self.now.bindings.now left }
+        ensures { result ≡ left_node self.now.node self.now.bindings.now left }
+    {
+        match left {
+            Left::Root => self.node,
+            Left::Variable(variable) => self.bindings[variable as usize],
+        }
+    }
+
+    // The nodes of the redirections, and behind them pairs of no account.
+    fn pairs(&self, first: u32, moves: &[Move]) -> [(NodeId, NodeId); 65]
+        requires few { length moves.now ≤ 65 }
+        requires named { All (IsNamedMove first self.now.bindings.now) moves.now }
+        ensures { take (length moves.now) result ≡ pairs_of first self.now.node self.now.bindings.now moves.now }
+    {
+        let nowhere = NodeId { number: 0 };
+        let mut pairs = [(nowhere, nowhere); 65];
+        for (place, step) in moves.iter().enumerate() {
+            let to = mentioned_node(first, self.bindings, step.to);
+            pairs[place] = (self.left(step.from), to);
+        }
+        pairs
+    }
+
+    // Redirects, where the new nodes are numbered from `first`.
+    fn redirect(&self, store: &mut Store, first: u32, moves: &[Move])
+        requires few { length moves.now ≤ 65 }
+        requires named { All (IsNamedMove first self.now.bindings.now) moves.now }
+        requires nodes { AreNodes store.old.room.nodes (pairs_of first self.now.node self.now.bindings.now moves.now) }
+        ensures graph { store.new.graph ≡ redirected (sent (pairs_of first self.now.node self.now.bindings.now moves.now)) store.old.graph }
+        ensures versions { IsVersioned self.now.entry store.old store.new }
+        ensures room { store.new.room ≡ store.old.room }
+    {
+        let pairs = self.pairs(first, moves);
+        store.redirect(&pairs[..moves.len()], self.entry);
+    }
+
+    // The node gives up its activity, and then the nodes of the variables are woken.
+    fn settle(&self, store: &mut Store, wakes: &[u8], woken: &mut Woken)
+        requires site { IsSiteIn self.now store.old.graph }
+        requires wakes { All (λ v. v < length self.now.bindings.now) wakes.now }
+        requires room { length store.old.graph.nodes ≤ woken.old.room }
+        ensures { IsSettled self.now.node self.now.bindings.now wakes.now store.old woken.old store.new woken.new }
+    {
+        woken.clear();
+        store.set_mark(self.node, Mark::Idle);
+        wake_all(store, self.bindings, wakes, woken);
+        woken.sort();
+    }
+
+    // Makes a written body.
+    fn make_written(
+        &self,
+        store: &mut Store,
+        fresh: &[FreshNode],
+        moves: &[Move],
+        wakes: &[u8],
+        woken: &mut Woken,
+    )
+        requires valid { IsValid store.old }
+        requires site { IsSiteIn self.now store.old.graph }
+        requires body { IsWrittenFor (length self.now.bindings.now) fresh.now moves.now wakes.now }
+        requires fits { Fits (needed_by (Written fresh.now moves.now wakes.now)) (left_in store.old) }
+        requires room { store.old.room.nodes ≤ woken.old.room }
+        ensures { IsMade self.now.node self.now.entry (rewritten store.old.graph self.now.node self.now.bindings.now fresh.now moves.now wakes.now) store.old woken.old store.new woken.new }
+    {
+        self.settle(store, wakes, woken);
+        let first = store.next_number();
+        store.append_contractum(self.bindings, fresh, self.entry);
+        list_new(first, fresh, woken);
+        self.redirect(store, first, moves);
+    }
+
+    // What an arithmetic rule makes of its two operands.
+    fn computed(&self, store: &Store, op: Op) -> Label
+        requires valid { IsValid store.now }
+        requires site { IsSiteIn self.now store.now.graph }
+        requires operands { length self.now.bindings.now ≡ 2 }
+        requires fits { FitsWord (delta_label op store.now.graph self.now.bindings.now) }
+        ensures { result ≡ delta_label op store.now.graph self.now.bindings.now }
+    {
+        let x = integer_at(store, self.bindings[0]);
+        let y = integer_at(store, self.bindings[1]);
+        result_label(op, x, y)
+    }
+
+    // Makes the result of an arithmetic rule, to which the node is redirected.
+    fn make_result(&self, store: &mut Store, op: Op, woken: &mut Woken)
+        requires valid { IsValid store.old }
+        requires site { IsSiteIn self.now store.old.graph }
+        requires operands { length self.now.bindings.now ≡ 2 }
+        requires result { FitsWord (delta_label op store.old.graph self.now.bindings.now) }
+        requires fits { Fits (needed_by (Delta op)) (left_in store.old) }
+        requires room { store.old.room.nodes ≤ woken.old.room }
+        ensures { IsMade self.now.node self.now.entry (fired store.old.graph self.now.node self.now.bindings.now (Delta op)) store.old woken.old store.new woken.new }
+    {
+        let label = self.computed(store, op);
+        self.settle(store, &[], woken);
+        let made = store.append(label, Mark::Active, self.entry);
+        woken.push(made);
+        store.redirect(&[(self.node, made)], self.entry);
+    }
+
+    /// Makes the body, for which there is room.
+    pub fn make(&self, store: &mut Store, body: &Body, woken: &mut Woken)
+        requires valid { IsValid store.old }
+        requires site { IsSiteIn self.now store.old.graph }
+        requires body { CanMake store.old.graph self.now.bindings.now body.now }
+        requires fits { Fits (needed_by body.now) (left_in store.old) }
+        requires room { store.old.room.nodes ≤ woken.old.room }
+        ensures { IsMade self.now.node self.now.entry (fired store.old.graph self.now.node self.now.bindings.now body.now) store.old woken.old store.new woken.new }
+    {
+        match body {
+            Body::Written {
+                fresh,
+                moves,
+                wakes,
+            } => self.make_written(
+                store,
+                fresh.as_slice(),
+                moves.as_slice(),
+                wakes.as_slice(),
+                woken,
+            ),
+            Body::Delta(op) => self.make_result(store, *op, woken),
+        }
+    }
+}

@@ -1,0 +1,14 @@
+pub mod Lists
+pub mod Rings
+pub mod Laying
+pub mod Seen
+pub mod Changed
+pub mod Targets
+pub mod Growing
+pub mod Filling
+pub mod Counting
+pub mod Giving
+pub mod Moved
+pub mod Notified
+pub mod Acting
+pub mod Noted

@@ -1,0 +1,7 @@
+pub mod Contractum
+pub mod Held
+pub mod Layout
+pub mod Notifying
+pub mod Redirecting
+pub mod Start
+pub mod Table

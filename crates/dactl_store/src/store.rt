@@ -1,0 +1,198 @@
+//! The store.
+
+ghost use Rattle.std.specs.Prelude.{◌≡◌, ◌+◌, ◌<◌, ◌≤◌, ◌^◌, [], ◌∷◌, ◌++◌, length, map, slice_get, Some, IfOk, MatchOption, MatchBool};
+ghost use Rattle.dactl_active.specs.Ring.{turned};
+ghost use Rattle.dactl_model.specs.Graphs.{HasNode, HasArity};
+ghost use Rattle.dactl_model.specs.Matching.{IsActive};
+ghost use Rattle.dactl_model.specs.Ending.{IsPassive, arcs_of};
+ghost use Rattle.dactl_model.specs.Readings.{targets_of};
+ghost use Rattle.dactl_store.specs.Table.{ring_with};
+ghost use Rattle.dactl_store.specs.Held.{IsValid, IsVersionAt, IsReadingOf, HasActive, left_in, with_node, with_mark, with_arcs, node_with, arc_to, HasFreeNode, HasFreeArc, IsLast};
+ghost use Rattle.dactl_store.specs.Layout.{own_arcs, arc_of, IsWithin};
+
+use crate::table::{NodeRecord, NodeTable, Span};
+use dactl_active::Memory;
+use dactl_arcs::ArcPool;
+use dactl_model::graph::{Label, Mark, NodeId, Room};
+use dactl_model::reading::{Reading, Targets};
+use std::alloc::Global;
+use std::marker::Model;
+
+/// A graph that is changed in place, with a version for each node, a ring of its active nodes, and room for
+/// so many nodes and arcs.
+///
+/// All memory is taken when it is made. Between the calls that add a new part of a graph, arcs may lead to
+/// nodes that are still to be added.
+#[derive(Drop)]
+pub struct Store {
+    pub(crate) nodes: NodeTable,
+    pub(crate) arcs: ArcPool,
+    pub(crate) root: NodeId,
+    pub(crate) room: Room,
+}
+
+impl Model for Store {
+    ghost use Rattle.dactl_store.specs.Held.{Held};
+
+    ghost Value = { Held };
+
+    ghost use Rattle.dactl_store.specs.Layout.{held_of, IsStore};
+
+    ghost view = { λ s. held_of s.nodes s.arcs s.root s.room };
+
+    ghost invariant = { λ s. IsStore s.nodes s.arcs s.room };
+}
+
+// The targets of the arcs of a node.
+fn targets_along(arcs: &ArcPool, span: Span) -> Targets
+    requires within { IsWithin arcs.now.arcs span }
+    requires fits { length arcs.now.arcs < 2 ^ 32 }
+    requires few { span.count ≤ 16 }
+    ensures { targets_of result ≡ map (λ a. (arc_of a).target) (own_arcs arcs.now.arcs span) }
+{
+    let mut nodes = [NodeId { number: 0 }; 16];
+    for place in 0..span.count {
+        let target = arcs.arc(span.first + place as u32).target;
+        nodes[place as usize] = NodeId { number: target };
+    }
+    Targets {
+        count: span.count,
+        nodes,
+    }
+}
+
+impl Store {
+    /// A store without nodes. The root is a node that is still to be added.
+    pub(crate) fn with_room(alloc: Global, root: NodeId, room: Room) -> Result<Store, Memory>
+        ensures { IfOk result (λ s. s ≡ record {
+          graph = record { nodes = []; root = root };
+          versions = [];
+          active = [];
+          room = room;
+        }) }
+    {
+        Ok(Store {
+            nodes: NodeTable::with_room(alloc, room.nodes)?,
+            arcs: ArcPool::with_room(alloc, room.nodes, room.arcs)?,
+            root,
+            room,
+        })
+    }
+
+    /// How many more nodes and arcs there is room for.
+    pub fn left(&self) -> Room
+        ensures left { result ≡ left_in self.now }
+        ensures valid { IsValid self.now }
+    {
+        Room {
+            nodes: self.room.nodes - self.nodes.count(),
+            arcs: self.room.arcs - self.arcs.len(),
+        }
+    }
+
+    /// The number that the next node will have.
+    pub fn next_number(&self) -> u32
+        ensures number { result ≡ length self.now.graph.nodes }
+        ensures valid { IsValid self.now }
+    {
+        self.nodes.count()
+    }
+
+    /// The number of the entry that last gave the node its label and targets, or 0 where it has them from
+    /// the start.
+    pub fn version(&self, n: NodeId) -> u32
+        requires { HasNode self.now.graph n }
+        ensures { IsVersionAt self.now n result }
+    {
+        self.nodes.get(n.number).version
+    }
+
+    /// What is to be read of a node.
+    pub fn reading(&self, n: NodeId) -> Reading
+        requires { HasNode self.now.graph n }
+        ensures { IsReadingOf self.now n result }
+    {
+        let node = self.nodes.get(n.number);
+        Reading {
+            node: n,
+            label: node.label,
+            targets: targets_along(&self.arcs, node.span),
+            version: node.version,
+        }
+    }
+
+    /// Whether a node is active.
+    pub fn any_active(&self) -> bool
+        ensures active { MatchBool result (HasActive self.now.graph) (IsPassive self.now.graph) }
+        ensures valid { IsValid self.now }
+    {
+        self.nodes.first_active().is_some()
+    }
+
+    /// An active node, if there is one; the ring turns by one, so that each active node has its turn.
+    pub fn active(&mut self) -> Option<NodeId>
+        ensures front { MatchOption result (self.old.active ≡ []) (λ n. slice_get self.old.active 0 ≡ Some n.number) }
+        ensures active { MatchOption result (IsPassive self.old.graph) (IsActive self.old.graph) }
+        ensures turned { self.new ≡ record self.old { active = turned self.old.active } }
+        ensures valid { IsValid self.new }
+    {
+        let Some(front) = self.nodes.first_active() else {
+            return None;
+        };
+        self.nodes.turn();
+        Some(NodeId { number: front })
+    }
+
+    /// Gives a node a mark.
+    pub fn set_mark(&mut self, n: NodeId, mark: Mark)
+        requires { HasNode self.old.graph n }
+        ensures { self.new ≡ record self.old {
+          graph = with_mark self.old.graph n mark;
+          active = ring_with mark self.old.active n.number;
+        } }
+    {
+        let node = self.nodes.get(n.number);
+        self.nodes.set(n.number, NodeRecord { mark, ..node });
+    }
+
+    /// Adds a node without arcs at the end.
+    pub fn append(&mut self, label: Label, mark: Mark, version: u32) -> NodeId
+        requires { HasFreeNode self.old }
+        ensures number { result.number ≡ length self.old.graph.nodes }
+        ensures added { self.new ≡ record self.old {
+          graph = with_node self.old.graph (node_with label mark);
+          versions = self.old.versions ++ version ∷ [];
+          active = ring_with mark self.old.active (length self.old.graph.nodes);
+        } }
+    {
+        let number = self.nodes.count();
+        let span = Span {
+            first: self.arcs.len(),
+            count: 0,
+        };
+        self.nodes.push(NodeRecord {
+            label,
+            mark,
+            version,
+            span,
+        });
+        NodeId { number }
+    }
+
+    /// Adds an arc at the end of the last node's. Its target may be a node that is still to be added.
+    pub fn append_arc(&mut self, owner: NodeId, target: NodeId, waits: bool)
+        requires free { HasFreeArc self.old }
+        requires owner { IsLast self.old.graph owner }
+        requires target { target.number < self.old.room.nodes }
+        ensures { self.new ≡ record self.old { graph = with_arcs self.old.graph owner (arc_to target waits ∷ []) } }
+    {
+        let node = self.nodes.get(owner.number);
+        let added = self.arcs.add(owner.number, target.number, waits);
+        let Ok(_) = added else { unreachable!() };
+        let span = Span {
+            count: node.span.count + 1,
+            ..node.span
+        };
+        self.nodes.set(owner.number, NodeRecord { span, ..node });
+    }
+}

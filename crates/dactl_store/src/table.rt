@@ -1,0 +1,131 @@
+//! The nodes of a graph without their arcs, and the ring of those that are active.
+
+ghost use Rattle.std.specs.Prelude.{◌≡◌, ◌+◌, ◌<◌, ◌≤◌, [], ◌∷◌, ◌++◌, length, slice_get, slice_set, Some, IfOk};
+ghost use Rattle.dactl_active.specs.Ring.{has, turned};
+ghost use Rattle.dactl_model.specs.Acts.{marks_active};
+ghost use Rattle.dactl_model.specs.Noting.{noted_mark};
+ghost use Rattle.dactl_store.specs.Table.{record_of, is_active, ring_with, IsValidTable};
+
+use dactl_active::{Memory, Ring};
+use dactl_model::graph::{Label, Mark};
+use std::alloc::Global;
+use std::marker::Model;
+
+/// The arcs of a node: so many from the first one on.
+#[derive(Clone, Copy, Drop)]
+pub struct Span {
+    pub first: u32,
+    pub count: u8,
+}
+
+/// A node: what it is, when it last got its label and targets, and which arcs are its own.
+#[derive(Clone, Copy, Drop)]
+pub struct NodeRecord {
+    pub label: Label,
+    pub mark: Mark,
+    pub version: u32,
+    pub span: Span,
+}
+
+/// The nodes by number, with room for so many, and those that are marked active in the order of a ring.
+#[derive(Drop)]
+pub struct NodeTable {
+    records: Vec<NodeRecord>,
+    ring: Ring,
+    room: u32,
+}
+
+impl Model for NodeTable {
+    ghost use Rattle.std.specs.Prelude.{vec_capacity};
+    ghost use Rattle.dactl_store.specs.Table.{Table, IsTable};
+
+    ghost Value = { Table };
+
+    ghost view = { λ t. record { records = t.records.items; active = t.ring.numbers; room = t.room } };
+
+    ghost invariant = { λ t. IsTable t.records.items t.ring t.room (vec_capacity t.records) };
+}
+
+// Puts the node into the ring where its mark is active, and takes it out where it isn't.
+fn place(ring: &mut Ring, node: u32, mark: Mark)
+    requires { node < ring.old.room }
+    ensures numbers { ring.new.numbers ≡ ring_with mark ring.old.numbers node }
+    ensures room { ring.new.room ≡ ring.old.room }
+{
+    match mark {
+        Mark::Active => ring.insert(node),
+        _ => ring.remove(node),
+    }
+}
+
+impl NodeTable {
+    /// An empty table with room for so many nodes.
+    pub fn with_room(alloc: Global, nodes: u32) -> Result<NodeTable, Memory>
+        ensures { IfOk result (λ t. t ≡ record { records = []; active = []; room = nodes }) }
+    {
+        Ok(NodeTable {
+            records: Vec::with_capacity(alloc, nodes as usize)?,
+            ring: Ring::with_room(alloc, nodes)?,
+            room: nodes,
+        })
+    }
+
+    /// How many nodes there are.
+    pub fn count(&self) -> u32
+        ensures count { result ≡ length self.now.records }
+        ensures valid { IsValidTable self.now }
+    {
+        self.records.len() as u32
+    }
+
+    /// The record of a node.
+    pub fn get(&self, node: u32) -> NodeRecord
+        requires { node < length self.now.records }
+        ensures found { result ≡ record_of self.now.records node }
+        ensures ring { has self.now.active node ≡ marks_active result.mark }
+    {
+        self.records[node as usize]
+    }
+
+    /// The active node at the front of the ring.
+    pub fn first_active(&self) -> Option<u32>
+        ensures first { result ≡ slice_get self.now.active 0 }
+        ensures valid { IsValidTable self.now }
+    {
+        self.ring.first()
+    }
+
+    /// Moves the front of the ring to its back.
+    pub fn turn(&mut self)
+        ensures { self.new ≡ record self.old { active = turned self.old.active } }
+    {
+        self.ring.advance();
+    }
+
+    /// Adds a node at the end.
+    pub fn push(&mut self, node: NodeRecord)
+        requires { length self.old.records < self.old.room }
+        ensures { self.new ≡ record {
+          records = self.old.records ++ node ∷ [];
+          active = ring_with node.mark self.old.active (length self.old.records);
+          room = self.old.room;
+        } }
+    {
+        let number = self.records.len() as u32;
+        self.records.push_reserved(node);
+        place(&mut self.ring, number, node.mark);
+    }
+
+    /// Gives a node another record.
+    pub fn set(&mut self, node: u32, written: NodeRecord)
+        requires { node < length self.old.records }
+        ensures { self.new ≡ record {
+          records = slice_set self.old.records node written;
+          active = ring_with written.mark self.old.active node;
+          room = self.old.room;
+        } }
+    {
+        self.records[node as usize] = written;
+        place(&mut self.ring, node, written.mark);
+    }
+}
