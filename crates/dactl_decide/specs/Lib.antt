@@ -1,0 +1,4 @@
+pub mod Paths
+pub mod PathTrees
+pub mod Decisions
+pub mod Gathering

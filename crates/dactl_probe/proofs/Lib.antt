@@ -1,0 +1,5 @@
+pub mod Pairs
+pub mod Founds
+pub mod Rules
+pub mod Decided
+pub mod Traced

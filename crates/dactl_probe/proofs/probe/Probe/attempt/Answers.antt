@@ -1,0 +1,16 @@
+use Rattle.dactl_probe.proofs.Traced.{sound_probing, fire_within, shows_fire}
+use Rattle.dactl_probe.proofs.probe.Probe.attempt.Goals as goal
+
+pub rule_of-requires-clause-within : goal.rule_of-requires-clause-within
+rule_of-requires-clause-within c = rw c.program.ensures.same (fire_within _ _ _ _ _ c.self.invariant.decided c.in-Fire.is)
+
+pub returns-in-Fire-clause-shows : goal.returns-in-Fire-clause-shows
+returns-in-Fire-clause-shows c =
+    let is = rw c.program.ensures.same at c.rule_of.ensures.is in
+    rw (← c.self.view_is) (shows_fire c.self.inside.deciders.now.program c.self.inside.footprint c.push_bindings.new.footprint c.self.inside.node c.self.inside.verdict c.in-Fire.rule c.rule_of.result.now c.self.invariant.decided c.in-Fire.is is c.push_bindings.ensures)
+
+pub returns-in-Fire-clause-probing : goal.returns-in-Fire-clause-probing
+returns-in-Fire-clause-probing c = rw (← c.self.view_is) (sound_probing _ _ _ _ c.self.invariant)
+
+pub returns-in-Note-clause-probing : goal.returns-in-Note-clause-probing
+returns-in-Note-clause-probing c = rw (← c.self.view_is) (sound_probing _ _ _ _ c.self.invariant)

@@ -1,0 +1,13 @@
+use Rattle.dactl_probe.proofs.Traced.{started, started_view, sound_probing}
+use Rattle.dactl_probe.proofs.probe.Probe.start.Goals as goal
+
+pub invariant_of-result : goal.invariant_of-result
+invariant_of-result c = started _ _ c.args.room _ _ _ c.judge-verdict.ensures.decisions c.requires c.clear.ensures c.readings.ensures c.judge-verdict.ensures.verdict
+
+pub returns : goal.returns
+returns c =
+    let sound = started _ _ c.args.room _ _ _ c.judge-verdict.ensures.decisions c.requires c.clear.ensures c.readings.ensures c.judge-verdict.ensures.verdict in
+    record {
+      begun = started_view _ _ c.args.room _ _ _ c.clear.ensures c.readings.ensures c.judge-verdict.ensures.verdict;
+      probing = sound_probing _ _ _ _ sound;
+    }

@@ -1,0 +1,11 @@
+use Rattle.std.proofs.Common.{ap, ◌∙◌}
+use Rattle.dactl_probe.proofs.Traced.{sound_room, sound_step}
+use Rattle.dactl_probe.proofs.probe.Probe.step.Goals as goal
+
+pub push_reading-requires : goal.push_reading-requires
+push_reading-requires c = sound_room _ _ _ _ c.self.invariant c.args.reading.node (ap (λ p. p.next) c.self.view_is ∙ c.requires)
+
+pub invariant_of-self : goal.invariant_of-self
+invariant_of-self c =
+    let decided = rw (c.readings.ensures, c.push_reading.ensures) at c.judge-self-inside.ensures.verdict in
+    rw c.push_reading.ensures (sound_step _ _ _ _ c.self.invariant c.args.reading _ (ap (λ p. p.next) c.self.view_is ∙ c.requires) decided)

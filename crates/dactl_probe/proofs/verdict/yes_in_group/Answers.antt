@@ -1,0 +1,21 @@
+use Rattle.std.proofs.Common.{All, subst, sym, ◌∙◌}
+use Rattle.std.proofs.lemmas.List.{take_all}
+use Rattle.std.proofs.lemmas.List.Elements.{All-more}
+use Rattle.dactl_probe.proofs.Decided.{IsNotYes, all_not_yes, not_yes_here, open_rule}
+use Rattle.dactl_probe.proofs.verdict.yes_in_group.Goals as goal
+
+pub loop-number-preserved : goal.loop-number-preserved
+loop-number-preserved c =
+    let is = rw c.program-program.ensures.same at c.rule_of-rule.ensures.is in
+    All-more (IsNotYes c.args.deciders.now.program.rules c.args.group c.args.readings.now c.args.node) _ _ 0 c.loop-number-test.true c.loop-number.invariant (not_yes_here c.args.deciders.now.program.rules c.args.group c.args.readings.now c.args.node _ c.rule_of-rule.result.now is (λ both. let clash = sym c.if-is_yes_in_group.false ∙ c.is_yes_in_group.ensures.1 both in cc))
+
+pub returns-then-is_yes_in_group : goal.returns-then-is_yes_in_group
+returns-then-is_yes_in_group c =
+    let numbers = c.rules-number-items.result.now in
+    let is = rw c.program-program.ensures.same at c.rule_of-rule.ensures.is in
+    open_rule _ _ c.args.readings.now c.args.node numbers c.rules-number-items.ensures _ 0 c.rule_of-rule.result.now _ c.loop-number-test.true is (c.is_yes_in_group.ensures.0 c.if-is_yes_in_group.true)
+
+pub returns : goal.returns
+returns c =
+    let numbers = c.rules-number-items.result.now in
+    all_not_yes _ _ c.args.group _ _ numbers c.rules-number-items.ensures (subst (λ xs. All (IsNotYes c.args.deciders.now.program.rules c.args.group c.args.readings.now c.args.node) xs) (take_all _ numbers c.loop-number-test.false) c.loop-number.invariant)

@@ -1,0 +1,108 @@
+//! What readings decide.
+ghost use Rattle.std.specs.Prelude.{◌≡◌, ◌<◌, Some, length, slice_get};
+ghost use Rattle.dactl_model.specs.Programs.{IsValid, IsDelta};
+ghost use Rattle.dactl_decide.specs.Decisions.{AreDecisions};
+ghost use Rattle.dactl_probe.specs.Verdicts.{IsFirstOpen, IsYesInGroup, HasSymbolRead, IsVerdict};
+
+use crate::finding::Finding;
+use crate::reading::reading_of;
+use crate::rule::{find_rule, is_yes_in_group};
+use dactl_decide::Deciders;
+use dactl_model::graph::{Label, NodeId};
+use dactl_model::program::{Program, Rule};
+use dactl_model::reading::Reading;
+
+/// What is to be done at a node as far as readings tell: another node is to be read first, the rule
+/// of this number may fire, or no rule matches.
+#[derive(Clone, Copy, Debug)]
+pub enum Verdict {
+    Need(NodeId),
+    Fire(u32),
+    Note,
+}
+
+/// A rule that isn't known to fail: it matches, or waits for a node to be read.
+#[derive(Clone, Copy, Debug)]
+enum Open {
+    Fires(u32),
+    Waits { rule: u32, need: NodeId },
+}
+
+/// The rule of a number.
+pub fn rule_of(program: &Program, number: u32) -> &Rule
+    requires valid { IsValid program.now }
+    requires within { number < length program.now.rules }
+    ensures is { slice_get program.now.rules number ≡ Some result.now }
+    ensures operands { IsDelta result.now.body → result.now.variables ≡ 2 }
+{
+    &program.rules.as_slice()[number as usize]
+}
+
+/// The first rule of the symbol that isn't known to fail.
+fn first_open(deciders: &Deciders, symbol: u32, readings: &[Reading], node: NodeId) -> Option<Open>
+    ensures { IsFirstOpen deciders.now.program.rules symbol readings.now node result }
+{
+    let program = deciders.program();
+    for &number in deciders.rules(symbol) {
+        match find_rule(readings, rule_of(program, number), node) {
+            Finding::No => {}
+            Finding::Unknown(need) => return Some(Open::Waits { rule: number, need }),
+            Finding::Yes => return Some(Open::Fires(number)),
+        }
+    }
+    None
+}
+
+/// The first rule of the symbol in the group that matches.
+fn yes_in_group(
+    deciders: &Deciders,
+    symbol: u32,
+    group: u32,
+    readings: &[Reading],
+    node: NodeId,
+) -> Option<u32>
+    ensures { IsYesInGroup deciders.now.program.rules symbol group readings.now node result }
+{
+    let program = deciders.program();
+    for &number in deciders.rules(symbol) {
+        let rule = rule_of(program, number);
+        if is_yes_in_group(readings, rule, node, group) {
+            return Some(number);
+        }
+    }
+    None
+}
+
+/// What the readings decide at a node that was read and has the symbol.
+fn at_symbol(deciders: &Deciders, symbol: u32, readings: &[Reading], node: NodeId) -> Verdict
+    requires { HasSymbolRead readings.now node symbol }
+    ensures { IsVerdict deciders.now.program readings.now node result }
+{
+    let program = deciders.program();
+    match first_open(deciders, symbol, readings, node) {
+        None => Verdict::Note,
+        Some(Open::Fires(rule)) => Verdict::Fire(rule),
+        Some(Open::Waits { rule, need }) => {
+            let group = rule_of(program, rule).group;
+            match yes_in_group(deciders, symbol, group, readings, node) {
+                Some(other) => Verdict::Fire(other),
+                None => Verdict::Need(need),
+            }
+        }
+    }
+}
+
+/// What the readings decide at the node.
+pub fn judge(deciders: &Deciders, readings: &[Reading], node: NodeId) -> Verdict
+    ensures verdict { IsVerdict deciders.now.program readings.now node result }
+    ensures decisions { AreDecisions deciders.now }
+{
+    let _program = deciders.program();
+    match reading_of(readings, node) {
+        None => Verdict::Need(node),
+        Some(reading) => match reading.label {
+            Label::Symbol(symbol) => at_symbol(deciders, symbol, readings, node),
+            Label::Integer(_) => Verdict::Note,
+        },
+    }
+}
