@@ -5,3 +5,12 @@ pub mod Answer
 pub mod Reading
 pub mod Laws
 pub mod Canonical
+pub mod Faults
+pub mod Declarations
+pub mod Sight
+pub mod Uses
+pub mod ScopeFaults
+pub mod Expansion
+pub mod Contractum
+pub mod RuleFaults
+pub mod Meaning

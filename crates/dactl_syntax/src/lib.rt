@@ -1,7 +1,7 @@
-//! From a text to what it says.
+//! From the tokens of a text to its tree, and from a tree to its canonical text. The definitions of
+//! what a tree means stand in `specs/`.
 #![tactic(auto)]
 
-pub mod first;
 mod items;
 pub mod laws;
 mod modules;
@@ -9,8 +9,6 @@ mod patterns;
 mod rules;
 mod terminals;
 mod terms;
-#[cfg(test)]
-mod tests;
 mod text;
 mod token;
 pub mod tree;

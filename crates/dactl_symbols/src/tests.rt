@@ -1,0 +1,219 @@
+use crate::scoping::scope;
+use crate::sight::{Scopes, Seen};
+use dactl_base::refusal::{Kind, Place, Refusal, TextFault};
+use dactl_model::program::Class;
+use dactl_syntax::parse;
+use dactl_tokens::tokens;
+use std::alloc::{AllocError, Global};
+
+fn scoped(alloc: Global, text: &[u8]) -> Result<Scopes, TextFault> {
+    if text.len() > 1_048_576 {
+        return Err(TextFault::Memory);
+    }
+    let tokens = tokens(alloc, text)?;
+    let tree = parse(alloc, text, tokens.as_slice())?;
+    scope(alloc, &tree)
+}
+
+fn refusal(alloc: Global, text: &[u8]) -> Option<Refusal> {
+    match scoped(alloc, text) {
+        Err(TextFault::Refused(refusal)) => Some(refusal),
+        _ => None,
+    }
+}
+
+fn at(kind: Kind, byte: u32) -> Option<Refusal> {
+    Some(Refusal {
+        kind,
+        place: Place { byte },
+    })
+}
+
+#[test]
+fn each_kind_of_fault_is_told(rt: HostRuntime) {
+    let table: [(&[u8], Kind, u32); 8] = [
+        (
+            b"MODULE M; SYMBOL CREATABLE A, A; INITIAL => A; ENDMODULE M;".as_slice(),
+            Kind::TwiceDeclared,
+            30,
+        ),
+        (
+            b"MODULE M; IMPORTS N; INITIAL => A; ENDMODULE M;".as_slice(),
+            Kind::UnknownModule,
+            18,
+        ),
+        (
+            b"MODULE M; INITIAL => A; ENDMODULE M;".as_slice(),
+            Kind::UnknownName,
+            21,
+        ),
+        (
+            b"MODULE M; INITIAL => IAdd[1 2]; ENDMODULE M;".as_slice(),
+            Kind::NotVisible,
+            21,
+        ),
+        (
+            b"MODULE M; SYMBOL CREATABLE PUBLIC OVERWRITABLE A; INITIAL => A; ENDMODULE M;".as_slice(),
+            Kind::PublicTooStrong,
+            34,
+        ),
+        (
+            b"MODULE M; SYMBOL REWRITABLE PUBLIC REWRITABLE A; INITIAL => A; ENDMODULE M;".as_slice(),
+            Kind::PublicTooStrong,
+            35,
+        ),
+        (b"MODULE M; ENDMODULE M;".as_slice(), Kind::NoInitial, 22),
+        (
+            b"MODULE M; SYMBOL CREATABLE A; INITIAL => A; INITIAL => A; ENDMODULE M;".as_slice(),
+            Kind::TwoInitials,
+            44,
+        ),
+    ];
+    for (text, kind, byte) in table {
+        assert!(&rt; refusal(rt.alloc(), text) == at(kind, byte), "at {byte}");
+    }
+}
+
+// Of several faults the one at the least place is told, and at one place the first of the kinds.
+#[test]
+fn the_first_of_several_faults_is_told(rt: HostRuntime) {
+    let table: [(&[u8], Kind, u32); 6] = [
+        (
+            b"MODULE M; INITIAL => A; SYMBOL CREATABLE B, B; INITIAL => B; ENDMODULE M;".as_slice(),
+            Kind::UnknownName,
+            21,
+        ),
+        (
+            b"MODULE M; SYMBOL CREATABLE True; INITIAL => B; ENDMODULE M;".as_slice(),
+            Kind::TwiceDeclared,
+            27,
+        ),
+        (
+            b"MODULE A; IMPORTS B; ENDMODULE A; MODULE B; ENDMODULE B;".as_slice(),
+            Kind::UnknownModule,
+            18,
+        ),
+        (
+            b"MODULE M; SYMBOL REWRITABLE F; PATTERN P = ANY; RULE F[P[1]] => 1; ENDMODULE M;".as_slice(),
+            Kind::UnknownName,
+            55,
+        ),
+        (
+            b"MODULE A; PATTERN P = ANY; ENDMODULE A; MODULE B; SYMBOL REWRITABLE F; RULE F[P[1]] => 1; INITIAL => F; ENDMODULE B;".as_slice(),
+            Kind::UnknownName,
+            78,
+        ),
+        (
+            b"MODULE A; PATTERN P = ANY; ENDMODULE A; MODULE B; SYMBOL REWRITABLE F; RULE F[P] => 1; INITIAL => F; ENDMODULE B;".as_slice(),
+            Kind::NotVisible,
+            78,
+        ),
+    ];
+    for (text, kind, byte) in table {
+        assert!(&rt; refusal(rt.alloc(), text) == at(kind, byte), "at {byte}");
+    }
+}
+
+// The text has that many rules.
+fn with_rules(alloc: Global, count: u32) -> Result<Vec<u8>, AllocError> {
+    let head = b"MODULE M; SYMBOL REWRITABLE F; RULE ";
+    let mut text = Vec::from_slice(alloc, head.as_slice())?;
+    for _ in 0..count {
+        text.extend_from_slice(b"F => F;".as_slice())?;
+    }
+    text.extend_from_slice(b" INITIAL => F; ENDMODULE M;".as_slice())?;
+    Ok(text)
+}
+
+// The text declares the module and that many symbols, each with a name of six bytes.
+fn with_symbols(alloc: Global, count: u32) -> Result<Vec<u8>, AllocError> {
+    let head = b"MODULE M; SYMBOL CREATABLE First";
+    let mut text = Vec::from_slice(alloc, head.as_slice())?;
+    for number in 0..count {
+        let name = [
+            b',',
+            b'S',
+            b'a' + (number % 26) as u8,
+            b'a' + (number / 26 % 26) as u8,
+            b'a' + (number / 676 % 26) as u8,
+            b'a' + (number / 17_576 % 26) as u8,
+        ];
+        text.extend_from_slice(name.as_slice())?;
+    }
+    text.extend_from_slice(b"; INITIAL => First; ENDMODULE M;".as_slice())?;
+    Ok(text)
+}
+
+#[test]
+fn one_rule_or_name_too_many_is_told(rt: HostRuntime) -> Result<(), AllocError> {
+    let alloc = rt.alloc();
+    let most = with_rules(alloc, 4096)?;
+    assert!(&rt; scoped(alloc, most.as_slice()).is_ok());
+    let more = with_rules(alloc, 4097)?;
+    assert!(&rt; refusal(alloc, more.as_slice()) == at(Kind::TooMany, 28708));
+    let most = with_symbols(alloc, 16_382)?;
+    assert!(&rt; scoped(alloc, most.as_slice()).is_ok());
+    // The module, the first symbol and 16,382 more are 16,384 names.
+    let more = with_symbols(alloc, 16_383)?;
+    assert!(&rt; refusal(alloc, more.as_slice()) == at(Kind::TooMany, 32 + 6 * 16_382 + 1));
+    Ok(())
+}
+
+const TWO: &[u8] =
+    b"MODULE A; SYMBOL OVERWRITABLE PUBLIC CREATABLE Cell; SYMBOL CREATABLE Own; PATTERN PUBLIC P = ANY; ENDMODULE A; MODULE B; IMPORTS A, Arithmetic; SYMBOL REWRITABLE F; INITIAL => F; ENDMODULE B;";
+
+#[test]
+fn modules_see_their_own_and_public_names(rt: HostRuntime) -> Result<(), TextFault> {
+    let scopes = scoped(rt.alloc(), TWO)?;
+    let table: [(usize, &[u8], Option<Seen>); 9] = [
+        (0, b"Cell".as_slice(), symbol(7, Class::Overwritable)),
+        (1, b"Cell".as_slice(), symbol(7, Class::Creatable)),
+        (0, b"Own".as_slice(), symbol(8, Class::Creatable)),
+        (1, b"Own".as_slice(), None),
+        (1, b"F".as_slice(), symbol(9, Class::Rewritable)),
+        (0, b"F".as_slice(), None),
+        (1, b"IAdd".as_slice(), symbol(0, Class::Creatable)),
+        (0, b"IAdd".as_slice(), None),
+        (1, b"A".as_slice(), None),
+    ];
+    for (owner, name, seen) in table {
+        assert!(&rt; scopes.look(owner, name) == seen, "{owner}");
+    }
+    let pattern = Some(Seen::Pattern { module: 0, item: 2 });
+    assert!(&rt; scopes.look(1, b"P".as_slice()) == pattern);
+    Ok(())
+}
+
+fn symbol(id: u32, class: Class) -> Option<Seen> {
+    Some(Seen::Symbol { id, class })
+}
+
+#[test]
+fn symbols_have_numbers_and_classes(rt: HostRuntime) -> Result<(), TextFault> {
+    let scopes = scoped(rt.alloc(), TWO)?;
+    for (owner, number, class) in [
+        (0, 7, Some(Class::Overwritable)),
+        (1, 7, Some(Class::Creatable)),
+        (1, 8, None),
+        (1, 9, Some(Class::Rewritable)),
+        (0, 9, None),
+        (1, 10, None),
+    ] {
+        assert!(&rt;
+            scopes.class_for(owner, number) == class,
+            "{owner} {number}"
+        );
+    }
+    let symbols = scopes.symbols(rt.alloc())?;
+    assert_eq!(rt; symbols.len(), 10);
+    match symbols.as_slice() {
+        [.., cell, own, f] => {
+            assert_eq!(rt; cell.name.as_slice(), b"Cell".as_slice());
+            assert_eq!(rt; own.name.as_slice(), b"Own".as_slice());
+            assert_eq!(rt; f.name.as_slice(), b"F".as_slice());
+            assert!(&rt; cell.class == Class::Overwritable);
+        }
+        _ => assert!(&rt; false),
+    }
+    Ok(())
+}
