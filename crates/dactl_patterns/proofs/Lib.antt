@@ -1,0 +1,13 @@
+pub mod Growing
+pub mod Trees
+pub mod Layers
+pub mod Distinct
+pub mod Expansions
+pub mod Leaving
+pub mod Told
+pub mod Faultless
+pub mod Counted
+pub mod Gaining
+pub mod Reaching
+pub mod CycleFaults
+pub mod Settled

@@ -1,0 +1,162 @@
+-- What a named pattern reaches.
+use Rattle.std.proofs.Common.{◌≡◌, ℕ, zero, suc, ◌+◌, ◌<◌, ◌≤◌, ◌⊎◌, inl, inr, List, [], ◌∷◌, ◌++◌, map, length, get_or, Option, Some, None, refl, sym, ap, ◌∙◌, subst, arith, length-append}
+use Rattle.std.specs.Prelude.{Any, Contains, slice_get}
+use Rattle.std.specs.List.{filter_map, cons_option}
+use Rattle.std.proofs.lemmas.List.Elements.{Contains-append_left}
+use Rattle.dactl_syntax.specs.declared.tree.PatternTree.{PatternTree}
+use Rattle.dactl_syntax.specs.declared.tree.Text.{Text}
+use Rattle.dactl_syntax.specs.Declarations.{named_pattern}
+use Rattle.dactl_syntax.specs.Sight.{Seen, SeenSymbol, SeenPattern, sees}
+use Rattle.dactl_syntax.specs.Uses.{Use, pattern_uses}
+use Rattle.dactl_syntax.specs.Meaning.{NamedPattern, IsSeenAs, NamesIn, Names, Reaches}
+use Rattle.dactl_symbols.proofs.Sooner.{Any-nil, Any-cons, Any-uncons}
+use Rattle.dactl_patterns.specs.Cycling.{seen_pattern, named_by, named_from, Gains, ReachesItself}
+use Rattle.dactl_patterns.proofs.Gaining.{none_in}
+
+-- ---- names as a list
+
+seen-as : (b : NamedPattern) (o : Option Seen) → IsSeenAs b o → seen_pattern o ≡ Some b
+seen-as b None is = absurd is
+seen-as b (Some (SeenSymbol f class)) is = absurd is
+seen-as b (Some (SeenPattern m i)) is = ap Some (sym is)
+
+as-seen : (b : NamedPattern) (o : Option Seen) → seen_pattern o ≡ Some b → IsSeenAs b o
+as-seen b None e = cc
+as-seen b (Some (SeenSymbol f class)) e = cc
+as-seen b (Some (SeenPattern m i)) e = cc
+
+in_front : (v b : NamedPattern) (xs : List NamedPattern) (k : ℕ) → k < length (v ∷ xs) → get_or (v ∷ xs) k b ≡ b → (v ≡ b) ⊎ Contains xs b
+in_front v b xs zero below at = inl at
+in_front v b xs (suc k) below at = let less : k < length xs = omega arith in inr (k, less, at)
+
+in_cons : (o : Option NamedPattern) (xs : List NamedPattern) (b : NamedPattern) → Contains (cons_option o xs) b → (o ≡ Some b) ⊎ Contains xs b
+in_cons None xs b has = inr has
+in_cons (Some v) xs b has = elim (in_front v b xs has.0 has.1 has.2) [ inl here ↦ inl (ap Some here) | inr later ↦ inr later ]
+
+to_front : (o : Option NamedPattern) (xs : List NamedPattern) (b : NamedPattern) → o ≡ Some b → Contains (cons_option o xs) b
+to_front o xs b is = subst (λ (p : Option NamedPattern). Contains (cons_option p xs) b) (sym is) (0, (omega arith), refl)
+
+to_later : (o : Option NamedPattern) (xs : List NamedPattern) (b : NamedPattern) → Contains xs b → Contains (cons_option o xs) b
+to_later None xs b has = has
+to_later (Some v) xs b has = let below : has.0 < length xs = has.1 in let less : suc has.0 < length (v ∷ xs) = omega arith in (suc has.0, less, has.2)
+
+module _ (look : List ℕ → Option Seen) (b : NamedPattern) where
+  abbrev found : List Use → List NamedPattern
+  found us = filter_map (λ n. seen_pattern (look n.text)) (map (λ u. u.name) us)
+
+  abbrev Sees : Use → Type 0
+  Sees u = IsSeenAs b (look u.name.text)
+
+  listed : (us : List Use) → Any Sees us → Contains (found us) b
+  listed [] any = absurd (Any-nil Sees any)
+  listed (u ∷ us) any = elim (Any-uncons Sees u us any) [
+    | inl here ↦ to_front (seen_pattern (look u.name.text)) (found us) b (seen-as b (look u.name.text) here)
+    | inr later ↦ to_later (seen_pattern (look u.name.text)) (found us) b (listed us later)
+  ]
+
+  from_list : (us : List Use) → Contains (found us) b → Any Sees us
+  from_list [] has = absurd (none_in b has)
+  from_list (u ∷ us) has = Any-cons Sees u us (elim (in_cons (seen_pattern (look u.name.text)) (found us) b has) [
+    | inl here ↦ inl (as-seen b (look u.name.text) here)
+    | inr later ↦ inr (from_list us later)
+  ])
+
+by_tree : (text : Text) (m : ℕ) (o : Option PatternTree) (b : NamedPattern) → NamesIn text m o b → Contains (named_by text m o) b
+by_tree text m None b names = absurd names
+by_tree text m (Some tree) b names = listed (sees text m) b (pattern_uses tree) names
+
+of_tree : (text : Text) (m : ℕ) (o : Option PatternTree) (b : NamedPattern) → Contains (named_by text m o) b → NamesIn text m o b
+of_tree text m None b has = none_in b has
+of_tree text m (Some tree) b has = from_list (sees text m) b (pattern_uses tree) has
+
+pub names_listed : (text : Text) (a b : NamedPattern) → Names text a b → Contains (named_from text a) b
+names_listed text a b names = by_tree text a.0 (named_pattern text a.0 a.1) b names
+
+listed_names : (text : Text) (a b : NamedPattern) → Contains (named_from text a) b → Names text a b
+listed_names text a b has = of_tree text a.0 (named_pattern text a.0 a.1) b has
+
+-- ---- paths
+
+path_then : (text : Text) (a c b : NamedPattern) (between : List NamedPattern) → Reaches text a between c → Names text c b → Reaches text a (between ++ c ∷ []) b
+path_then text a c b [] first names = (first, names)
+path_then text a c b (d ∷ between) path names = (path.0, path_then text d c b between path.1 names)
+
+-- a list that has what its items name has what they reach
+inside : (text : Text) (keys : List NamedPattern) → ((x : NamedPattern) → Contains keys x → (y : NamedPattern) → Contains (named_from text x) y → Contains keys y)
+    → (between : List NamedPattern) (c b : NamedPattern) → Contains keys c → Reaches text c between b → Contains keys b
+inside text keys closed [] c b has path = closed c has b (names_listed text c b path)
+inside text keys closed (d ∷ between) c b has path = inside text keys closed between d b (closed c has d (names_listed text c d path.0)) path.1
+
+-- ---- the walk
+
+-- the keys are reached, they have what a names, and what those before the place name
+pub record Walked (text : Text) (a : NamedPattern) (keys : List NamedPattern) (at : ℕ) : Type 0 where
+  pub start : (x : NamedPattern) → Contains (named_from text a) x → Contains keys x
+  pub closed : (k : ℕ) (d : NamedPattern) → k < at → (x : NamedPattern) → Contains (named_from text (get_or keys k d)) x → Contains keys x
+  pub sound : (x : NamedPattern) → Contains keys x → (between : List NamedPattern) × Reaches text a between x
+  pub within : at ≤ length keys
+
+pub walk_begins : (text : Text) (a : NamedPattern) (old keys : List NamedPattern) → old ≡ [] → Gains old (named_from text a) keys → Walked text a keys 0
+walk_begins text a old keys empty gains = record {
+  start = gains.each;
+  closed = λ k d below. absurd (omega arith);
+  sound = λ x has. elim (gains.only x has) [
+    | inl before ↦ absurd (none_in x (subst (λ (l : List NamedPattern). Contains l x) empty before))
+    | inr named ↦ ([], listed_names text a x named)
+  ];
+  within = omega arith;
+}
+
+-- what stands before the end of a list stands there after more
+stays : (keys new : List NamedPattern) (more : List NamedPattern) (k : ℕ) (d : NamedPattern) → new ≡ keys ++ more → k < length keys → get_or new k d ≡ get_or keys k d
+stays keys new more k d is below = ap (λ l. get_or l k d) is ∙ before keys more k d below
+  where
+    before : (keys more : List NamedPattern) (k : ℕ) (d : NamedPattern) → k < length keys → get_or (keys ++ more) k d ≡ get_or keys k d
+    before [] more k d below = absurd (omega arith)
+    before (x ∷ keys) more zero d below = refl
+    before (x ∷ keys) more (suc k) d below = before keys more k d (omega arith)
+
+at_place : (keys : List NamedPattern) (i : ℕ) (x : NamedPattern) → slice_get keys i ≡ Some x → (i < length keys) × ((d : NamedPattern) → get_or keys i d ≡ x)
+at_place [] i x e = absurd (none e)
+  where
+    none : None ≡ Some x → ⊥
+    none e = cc
+at_place (y ∷ keys) zero x e = (omega arith, λ d. (let is : y ≡ x = cc in is))
+at_place (y ∷ keys) (suc i) x e = let later = at_place keys i x e in (omega (arith, later.0), later.1)
+
+pub walk_goes_on : (text : Text) (a : NamedPattern) (keys new : List NamedPattern) (at : ℕ) (next : NamedPattern) → Walked text a keys at → slice_get keys at ≡ Some next → Gains keys (named_from text next) new → Walked text a new (at + 1)
+walk_goes_on text a keys new at next walked found gains =
+    let place = at_place keys at next found in
+    let below : at < length keys = place.0 in
+    let longer : length new ≡ length keys + length gains.grown.0 = ap length gains.grown.1 ∙ length-append keys gains.grown.0 in
+    record {
+      start = λ x has. older x (walked.start x has);
+      closed = λ k d less x has. elim (split k at less) [
+        | inl before ↦ older x (walked.closed k d before x (subst (λ (z : NamedPattern). Contains (named_from text z) x) (stays keys new gains.grown.0 k d gains.grown.1 (omega (arith, before, below))) has))
+        | inr here ↦ gains.each x (subst (λ (z : NamedPattern). Contains (named_from text z) x) (stays keys new gains.grown.0 k d gains.grown.1 (omega (arith, here, below)) ∙ ap (λ j. get_or keys j d) here ∙ place.1 d) has)
+      ];
+      sound = λ x has. elim (gains.only x has) [
+        | inl before ↦ walked.sound x before
+        | inr named ↦ (let way = walked.sound next (at, below, place.1 next) in (way.0 ++ next ∷ [], path_then text a next x way.0 way.1 (listed_names text next x named)))
+      ];
+      within = omega (arith, below, longer);
+    }
+  where
+    older : (x : NamedPattern) → Contains keys x → Contains new x
+    older x has = subst (λ (l : List NamedPattern). Contains l x) (sym gains.grown.1) (Contains-append_left keys gains.grown.0 x has)
+
+    split : (k at : ℕ) → k < at + 1 → (k < at) ⊎ (k ≡ at)
+    split k at less = grind arith
+
+-- at its end the walk has reached all that there is to reach
+pub walk_ends : (text : Text) (a : NamedPattern) (keys : List NamedPattern) (at : ℕ) → Walked text a keys at → length keys ≤ at → (Contains keys a → ReachesItself text a) × (ReachesItself text a → Contains keys a)
+walk_ends text a keys at walked past = (walked.sound a, λ way. reached way.0 way.1)
+  where
+    closed : (x : NamedPattern) → Contains keys x → (y : NamedPattern) → Contains (named_from text x) y → Contains keys y
+    closed x has y named =
+        let below : has.0 < length keys = has.1 in
+        walked.closed has.0 x (omega (arith, below, past)) y (subst (λ (z : NamedPattern). Contains (named_from text z) y) (sym has.2) named)
+
+    reached : (between : List NamedPattern) → Reaches text a between a → Contains keys a
+    reached [] names = walked.start a (names_listed text a a names)
+    reached (d ∷ between) path = inside text keys closed between d a (walked.start d (names_listed text a d path.0)) path.1

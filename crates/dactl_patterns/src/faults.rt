@@ -1,0 +1,179 @@
+//! The faults of one pattern, apart from the size of its expansion.
+
+ghost use Rattle.std.specs.Prelude.{◌≡◌, ◌++◌, [], true, false, Some, OnOk, IfOk, Contains, map};
+ghost use Rattle.std.specs.List.{flat_map};
+ghost use Rattle.dactl_syntax.specs.Faults.{TellsFaults};
+ghost use Rattle.dactl_symbols.specs.Least.{least_by};
+ghost use Rattle.dactl_patterns.specs.Naming.{words};
+ghost use Rattle.dactl_patterns.specs.Occurring.{seen};
+ghost use Rattle.dactl_patterns.specs.TreeFaults as spec;
+
+use crate::names::add;
+use crate::occurrences::Occurrence;
+use dactl_base::refusal::{Kind, Place, Refusal, TextFault};
+use dactl_symbols::least::lesser;
+use dactl_syntax::tree::{PatternTree, Sign};
+use std::alloc::{AllocError, Global};
+
+/// How many arguments a symbol may have.
+const MOST_ARGUMENTS: usize = 16;
+
+fn fault_if(
+    faults: &mut Vec<Refusal>,
+    holds: bool,
+    kind: Kind,
+    place: Place,
+) -> Result<(), AllocError>
+    ensures { OnOk result (faults.new.items ≡ faults.old.items ++ spec.fault_if holds kind place) }
+{
+    if holds {
+        faults.push(Refusal { kind, place })?;
+    }
+    Ok(())
+}
+
+/// Adds a `BinderInChoice` for each of these places where no variable may stand.
+fn binders(
+    faults: &mut Vec<Refusal>,
+    occurrences: &[Occurrence],
+    named: bool,
+) -> Result<(), AllocError>
+    ensures { OnOk result (faults.new.items ≡ faults.old.items ++ flat_map (spec.binder_fault named) (map seen occurrences.now)) }
+{
+    for occurrence in occurrences {
+        fault_if(
+            faults,
+            named || occurrence.in_choice,
+            Kind::BinderInChoice,
+            occurrence.name.place,
+        )?;
+    }
+    Ok(())
+}
+
+fn note_given<'a>(
+    faults: &mut Vec<Refusal>,
+    names: &mut Vec<&'a [u8]>,
+    occurrence: Occurrence<'a>,
+) -> Result<(), AllocError>
+    ensures faults { OnOk result (faults.new.items ≡ faults.old.items ++ spec.twice_fault (words names.old.items) (seen occurrence.entry)) }
+    ensures names { OnOk result (words names.new.items ≡ spec.given_after (words names.old.items) (seen occurrence.entry)) }
+{
+    if occurrence.given {
+        let added = add(names, occurrence.name.text.as_slice())?;
+        fault_if(faults, !added, Kind::NamedTwice, occurrence.name.place)?;
+    }
+    Ok(())
+}
+
+/// Adds a `NamedTwice` for each of these places where a name has `:` again.
+fn named_twice(
+    alloc: Global,
+    faults: &mut Vec<Refusal>,
+    occurrences: &[Occurrence],
+) -> Result<(), AllocError>
+    ensures { OnOk result (faults.new.items ≡ faults.old.items ++ spec.twice_faults [] (map seen occurrences.now)) }
+{
+    let mut names = Vec::new(alloc);
+    for occurrence in occurrences {
+        note_given(faults, &mut names, *occurrence)?;
+    }
+    Ok(())
+}
+
+/// Adds a `TooWide` for each symbol of the pattern with too many arguments.
+#[cycle(wide)]
+fn wide(faults: &mut Vec<Refusal>, tree: &PatternTree) -> Result<(), AllocError>
+    ensures { OnOk result (faults.new.items ≡ faults.old.items ++ spec.wide_faults tree.now) }
+{
+    match tree {
+        PatternTree::Any
+        | PatternTree::Int
+        | PatternTree::Integer { .. }
+        | PatternTree::Variable { .. } => Ok(()),
+        PatternTree::Sym { name, args } => {
+            fault_if(
+                faults,
+                args.len() > MOST_ARGUMENTS,
+                Kind::TooWide,
+                name.place,
+            )?;
+            wide_arguments(faults, args.as_slice())
+        }
+        PatternTree::Binder { inner, .. } => wide(faults, inner.get()),
+        PatternTree::Chain { first, rest } => {
+            wide(faults, first.get())?;
+            wide_links(faults, rest.as_slice())
+        }
+    }
+}
+
+#[cycle(wide)]
+fn wide_arguments(faults: &mut Vec<Refusal>, args: &[PatternTree]) -> Result<(), AllocError>
+    ensures { OnOk result (faults.new.items ≡ faults.old.items ++ flat_map spec.wide_faults args.now) }
+{
+    for argument in args {
+        wide(faults, argument)?;
+    }
+    Ok(())
+}
+
+#[cycle(wide)]
+fn wide_links(faults: &mut Vec<Refusal>, rest: &[(Sign, PatternTree)]) -> Result<(), AllocError>
+    ensures { OnOk result (faults.new.items ≡ faults.old.items ++ flat_map spec.link_wide_faults rest.now) }
+{
+    for link in rest {
+        wide(faults, &link.1)?;
+    }
+    Ok(())
+}
+
+fn all_faults(
+    alloc: Global,
+    occurrences: &[Occurrence],
+    tree: &PatternTree,
+    named: bool,
+    large: bool,
+    place: Place,
+) -> Result<Vec<Refusal>, AllocError>
+    ensures { IfOk result (λ faults. faults.items ≡ spec.faults_with large named place tree.now (map seen occurrences.now)) }
+{
+    let mut faults = Vec::new(alloc);
+    binders(&mut faults, occurrences, named)?;
+    wide(&mut faults, tree)?;
+    fault_if(&mut faults, large, Kind::TooWide, place)?;
+    named_twice(alloc, &mut faults, occurrences)?;
+    Ok(faults)
+}
+
+/// The one of the faults that is told.
+fn first_of(faults: &[Refusal]) -> Option<Refusal>
+    ensures { result ≡ least_by Some faults.now }
+{
+    let mut first = None;
+    for fault in faults {
+        first = lesser(first, Some(*fault));
+    }
+    first
+}
+
+/// Tells the first fault of a pattern, by the places of its variables. `large` says that the whole
+/// is too wide, and `place` is where that is told.
+pub fn tell(
+    alloc: Global,
+    occurrences: &[Occurrence],
+    tree: &PatternTree,
+    named: bool,
+    large: bool,
+    place: Place,
+) -> Result<(), TextFault>
+    ensures faults { TellsFaults (Contains (spec.faults_with large named place tree.now (map seen occurrences.now))) result }
+    ensures narrow { OnOk result (large ≡ false) }
+    ensures unbound { OnOk result (named ≡ true → map seen occurrences.now ≡ []) }
+{
+    let faults = all_faults(alloc, occurrences, tree, named, large, place)?;
+    match first_of(faults.as_slice()) {
+        Some(refusal) => Err(TextFault::Refused(refusal)),
+        None => Ok(()),
+    }
+}
