@@ -1,0 +1,6 @@
+use Rattle.std.proofs.Common.{◌≡◌, ℕ, List, take}
+use Rattle.dactl_rules.specs.Numbers.{found, variable_number}
+use Rattle.dactl_rules.proofs.variables.Variables.new.Given as goal
+
+abbrev pub invariant-loop-number : goal.invariant-loop-number
+invariant-loop-number l = (w : List ℕ) → found l.numbers w ≡ variable_number (take l.number l.name-items) w

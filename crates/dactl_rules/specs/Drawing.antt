@@ -1,0 +1,104 @@
+-- What a drawing holds, in the words of the definitions of a contractum.
+use Rattle.std.specs.Prelude.{◌≡◌, ℕ, zero, suc, Bool, List, [], ◌∷◌, ◌++◌, map, length, Option, option_map}
+use Rattle.std.specs.List.{flat_map}
+use Rattle.std.specs.Borrow.{Bor}
+use Rattle.dactl_syntax.specs.declared.tree.Name.{Name}
+use Rattle.dactl_syntax.specs.declared.tree.Marks.{Marks}
+use Rattle.dactl_syntax.specs.declared.tree.NodeTree.{NodeTree}
+use Rattle.dactl_syntax.specs.declared.tree.ArgTree.{ArgTree}
+use Rattle.dactl_syntax.specs.declared.tree.NodeTree.TheFolds.{fold-NodeTree, fold-ArgTree}
+use Rattle.dactl_syntax.specs.Contractum as contractum
+use Rattle.dactl_syntax.specs.Contractum.{Drawn, DrawnArc, MentionTree, node_drawn, arg_drawn, term_drawn, drawn_from, node_mentions, arg_mentions, term_mentions}
+use Rattle.dactl_rules.specs.declared.drawing.Target.{Target}
+use Rattle.dactl_rules.specs.declared.drawing.Target.TheVariants as target
+use Rattle.dactl_rules.specs.declared.drawing.Core.{Core}
+use Rattle.dactl_rules.specs.declared.drawing.Core.TheVariants as core
+use Rattle.dactl_rules.specs.declared.drawing.Sketch.{Sketch}
+use Rattle.dactl_rules.specs.declared.drawing.SketchArc.{SketchArc}
+use Rattle.dactl_rules.specs.declared.drawing.Mentioned.{Mentioned}
+use Rattle.dactl_rules.specs.declared.drawing.Drawing.{Drawing}
+
+-- ---- one level of the definitions, at each part of a term
+
+abbrev pub node_draws : NodeTree → ℕ → Option Name → Marks → Drawn
+node_draws = fold-NodeTree (ℕ → Option Name → Marks → Drawn) (ℕ → DrawnArc) (ℕ → Drawn) node_drawn arg_drawn term_drawn
+
+abbrev pub arg_draws : ArgTree → ℕ → DrawnArc
+arg_draws = fold-ArgTree (ℕ → Option Name → Marks → Drawn) (ℕ → DrawnArc) (ℕ → Drawn) node_drawn arg_drawn term_drawn
+
+-- arguments one after another, where the next new node has number k
+abbrev pub args_draw : List ArgTree → ℕ → List DrawnArc
+args_draw args k = drawn_from k (map arg_draws args)
+
+abbrev pub node_mentioned : NodeTree → List MentionTree
+node_mentioned = fold-NodeTree (List MentionTree) (List MentionTree) (List MentionTree) node_mentions arg_mentions term_mentions
+
+abbrev pub arg_mentioned : ArgTree → List MentionTree
+arg_mentioned = fold-ArgTree (List MentionTree) (List MentionTree) (List MentionTree) node_mentions arg_mentions term_mentions
+
+abbrev pub args_mentioned : List ArgTree → List MentionTree
+args_mentioned args = flat_map arg_mentioned args
+
+-- ---- what is drawn
+
+abbrev pub target_of : Target → contractum.Target
+target_of (target.Made k) = contractum.Made k
+target_of (target.Named w) = contractum.Named w.now
+
+abbrev pub core_of : Core → contractum.Core
+core_of (core.Number value) = contractum.Number value
+core_of (core.Of name) = contractum.Of name.now
+
+abbrev pub arc_of : SketchArc → Bool × contractum.Target
+arc_of a = (a.waits, target_of a.target)
+
+-- the name behind the reference, if there is one
+abbrev pub named : Option (Bor Name) → Option Name
+named name = option_map (λ n. n.now) name
+
+abbrev pub sketch_of : Sketch → contractum.Sketch
+sketch_of s = record { name = named s.name; marks = s.marks; core = core_of s.core; arcs = map arc_of s.arcs.items }
+
+abbrev pub mention_of : Mentioned → MentionTree
+mention_of m = record { name = m.name.now; marks = m.marks }
+
+-- the new nodes of a drawing, and what it mentions
+abbrev pub made_in : Drawing → List contractum.Sketch
+made_in d = map sketch_of d.made.items
+
+abbrev pub mentioned_in : Drawing → List MentionTree
+mentioned_in d = map mention_of d.mentions.items
+
+-- the number of the next new node
+abbrev pub next_number : Drawing → ℕ
+next_number d = length d.made.items
+
+-- a new node whose arcs are not drawn yet
+abbrev pub begun : Option (Bor Name) → Marks → Core → contractum.Sketch
+begun name m c = record { name = named name; marks = m; core = core_of c; arcs = [] }
+
+-- the new nodes, where the one of that number has these arcs
+abbrev pub with_arcs : List contractum.Sketch → ℕ → List (Bool × contractum.Target) → List contractum.Sketch
+with_arcs [] number arcs = []
+with_arcs (s ∷ made) zero arcs = record s { arcs = arcs } ∷ made
+with_arcs (s ∷ made) (suc number) arcs = s ∷ with_arcs made number arcs
+
+-- a drawing grows by new nodes and mentions
+pub record Grows (nodes : List contractum.Sketch) (names : List MentionTree) (old new : Drawing) : Type 0 where
+  pub made : made_in new ≡ made_in old ++ nodes
+  pub mentions : mentioned_in new ≡ mentioned_in old ++ names
+
+-- a term is drawn: the drawing grows by what it makes and mentions, and this is what it stands for
+pub record Draws (drawn : Drawn) (names : List MentionTree) (old new : Drawing) (t : Target) : Type 0 where
+  pub grows : Grows drawn.made names old new
+  pub stands : target_of t ≡ drawn.target
+
+-- an argument is drawn, and this is the arc to what it stands for
+pub record DrawsArc (drawn : DrawnArc) (names : List MentionTree) (old new : Drawing) (arc : SketchArc) : Type 0 where
+  pub grows : Grows drawn.drawn.made names old new
+  pub stands : arc_of arc ≡ (drawn.waits, drawn.drawn.target)
+
+-- arguments are drawn, and these are the arcs to what they stand for
+pub record DrawsArcs (drawn : List DrawnArc) (names : List MentionTree) (old new : Drawing) (arcs : List SketchArc) : Type 0 where
+  pub grows : Grows (flat_map (λ a. a.drawn.made) drawn) names old new
+  pub stands : map arc_of arcs ≡ map (λ a. (a.waits, a.drawn.target)) drawn

@@ -1,0 +1,12 @@
+pub mod Drawing
+pub mod Numbers
+pub mod Terms
+pub mod Told
+pub mod Meant
+pub mod Heads
+pub mod Writing
+pub mod Lefts
+pub mod Reading
+pub mod Rules
+pub mod Spelling
+pub mod Validity

@@ -1,0 +1,34 @@
+-- The faults of a rule, by what is read of it.
+use Rattle.std.specs.Prelude.{◌≡◌, ℕ, ◌<◌, not, List, [], ◌++◌, map, All, Contains, Option, Some, if◌then◌else◌}
+use Rattle.std.specs.List.{filter, flat_map}
+use Rattle.std.specs.Borrow.{Bor}
+use Rattle.dactl_base.specs.declared.refusal.Kind.TheVariants as kinds
+use Rattle.dactl_base.specs.declared.refusal.Refusal.{Refusal}
+use Rattle.dactl_base.specs.declared.refusal.TextFault.{TextFault}
+use Rattle.dactl_base.specs.declared.refusal.TextFault.TheVariants as fault
+use Rattle.dactl_model.specs.declared.program.Class.TheVariants as classes
+use Rattle.dactl_syntax.specs.declared.tree.Name.{Name}
+use Rattle.dactl_syntax.specs.declared.tree.RuleTree.{RuleTree}
+use Rattle.dactl_syntax.specs.Expansion.{is_among}
+use Rattle.dactl_syntax.specs.RuleFaults.{each_at, again, place_of, head_is, is_class}
+use Rattle.dactl_symbols.specs.Least.{sooner, TellsLeast}
+use Rattle.dactl_symbols.specs.Sights.{Sights}
+use Rattle.dactl_symbols.specs.Scoping.{seen_in, class_in}
+use Rattle.dactl_rules.specs.declared.reading.RuleParts.{RuleParts}
+use Rattle.dactl_rules.specs.Drawing.{made_in, mentioned_in}
+use Rattle.dactl_rules.specs.Lefts.{words, left_unbound}
+use Rattle.dactl_rules.specs.Told.{fault_at, drawn_faults}
+
+-- the faults for which the expansion of the pattern is not needed, apart from those of the pattern
+abbrev pub early_faults : Sights → ℕ → RuleTree → RuleParts → List Refusal
+early_faults s m tree r =
+    fault_at (not (head_is (λ f. is_class classes.Rewritable (class_in s m f)) r.head)) kinds.RootNotRewritable tree.place
+    ++ drawn_faults (seen_in s m) r.variables (made_in r.contractum.drawing) (mentioned_in r.contractum.drawing)
+    ++ flat_map (left_unbound r.variables) (words r.lefts.items)
+    ++ each_at kinds.RedirectedTwice (map place_of (again (if tree.redirects then r.roots else []) (filter (λ n. is_among r.variables n.text) (words r.lefts.items))))
+
+-- an answer for faults and the first fault of a pattern: the lesser of their first ones, where the left sides stand behind the pattern's fault
+abbrev pub IsAnswerFor : List Refusal → List (Bor Name) → Refusal → TextFault → Type 0
+IsAnswerFor faults lefts refusal fault.Memory = Unit {0}
+IsAnswerFor faults lefts refusal (fault.Refused r) =
+    All (λ n. refusal.place.byte < place_of n.now) lefts × ((least : Option Refusal) × (TellsLeast (Contains faults) least × (Some r ≡ sooner least (Some refusal))))

@@ -1,0 +1,68 @@
+-- The faults of a contractum, new node by new node and mention by mention.
+use Rattle.std.specs.Prelude.{ℕ, Bool, false, not, ◌&&◌, List, [], ◌∷◌, ◌++◌, map, length, count_by, Option, if◌then◌else◌, nat_lt}
+use Rattle.dactl_base.specs.declared.refusal.Kind.{Kind}
+use Rattle.dactl_base.specs.declared.refusal.Kind.TheVariants as kinds
+use Rattle.dactl_base.specs.declared.refusal.Place.{Place}
+use Rattle.dactl_base.specs.declared.refusal.Refusal.{Refusal}
+use Rattle.dactl_syntax.specs.declared.tree.Marks.{Marks}
+use Rattle.dactl_syntax.specs.declared.tree.Marks.TheVariants as marks
+use Rattle.dactl_syntax.specs.Sight.{Seen}
+use Rattle.dactl_syntax.specs.Contractum.{Core, Number, Of, Sketch, MentionTree}
+use Rattle.dactl_syntax.specs.Contractum.{given_names}
+use Rattle.dactl_syntax.specs.Expansion.{is_among}
+use Rattle.dactl_syntax.specs.RuleFaults.{is_pattern, each_at, again, place_of, core_names, mark_on_bound, too_many_waits_at}
+use Rattle.std.specs.List.{filter, flat_map}
+
+-- the fault of the kind at the place, where it holds
+abbrev pub fault_at : Bool → Kind → Place → List Refusal
+fault_at holds kind place = if holds then record { kind = kind; place = place } ∷ [] else []
+
+-- the same at the name of a symbol
+abbrev pub core_fault : Bool → Kind → Core → List Refusal
+core_fault holds kind (Number value) = []
+core_fault holds kind (Of name) = fault_at holds kind name.place
+
+-- too many arguments
+abbrev pub wide_at : Sketch → List Refusal
+wide_at s = core_fault (nat_lt 16 (length s.arcs)) kinds.TooWide s.core
+
+-- the name is that of a named pattern
+abbrev pub names_pattern : (List ℕ → Option Seen) → Core → Bool
+names_pattern look (Number value) = false
+names_pattern look (Of name) = is_pattern (look name.text)
+
+abbrev pub creatable_at : (List ℕ → Option Seen) → Sketch → List Refusal
+creatable_at look s = core_fault (names_pattern look s.core) kinds.NotCreatable s.core
+
+-- more `#` than arcs that wait
+abbrev pub waits_fault : ℕ → Marks → List Refusal
+waits_fault flags marks.Plain = []
+waits_fault flags (marks.Star p) = []
+waits_fault flags (marks.Hashes p count) = fault_at (nat_lt flags count) kinds.TooManyWaits p
+
+abbrev pub waits_at : Sketch → List Refusal
+waits_at s = waits_fault (count_by (λ a. a.0) s.arcs) s.marks
+
+-- a name that is not bound
+abbrev pub unbound_at : (List ℕ → Bool) → MentionTree → List Refusal
+unbound_at is_bound m = fault_at (not (is_bound m.name.text)) kinds.Unbound m.name.place
+
+-- a mark before a bound name that may not have it
+abbrev pub mark_fault : Bool → Bool → Marks → List Refusal
+mark_fault bound variable marks.Plain = []
+mark_fault bound variable (marks.Star p) = fault_at (bound && not variable) kinds.MarkOnBound p
+mark_fault bound variable (marks.Hashes p count) = fault_at bound kinds.MarkOnBound p
+
+abbrev pub mark_at : (List ℕ → Bool) → (List ℕ → Bool) → MentionTree → List Refusal
+mark_at is_bound is_variable m = mark_fault (is_bound m.name.text) (is_variable m.name.text) m.marks
+
+-- the faults of a contractum with these new nodes and mentions, kind by kind
+abbrev pub drawn_faults : (List ℕ → Option Seen) → List (List ℕ) → List Sketch → List MentionTree → List Refusal
+drawn_faults look variables made mentions =
+    let bound = variables ++ map (λ n. n.text) (given_names made) in
+    each_at kinds.TooWide (map place_of (flat_map (λ s. core_names s.core) (filter (λ s. nat_lt 16 (length s.arcs)) made)))
+    ++ each_at kinds.Unbound (map (λ m. place_of m.name) (filter (λ m. not (is_among bound m.name.text)) mentions))
+    ++ each_at kinds.NamedTwice (map place_of (again variables (given_names made)))
+    ++ each_at kinds.NotCreatable (map place_of (filter (λ n. is_pattern (look n.text)) (flat_map (λ s. core_names s.core) made)))
+    ++ each_at kinds.MarkOnBound (flat_map (λ m. mark_on_bound (is_among variables m.name.text) m.marks) (filter (λ m. is_among bound m.name.text) mentions))
+    ++ each_at kinds.TooManyWaits (flat_map (λ s. too_many_waits_at s s.marks) made)

@@ -1,0 +1,58 @@
+//! The terms of a contractum, drawn.
+ghost use Rattle.std.specs.Prelude.{◌≡◌, ℕ, ◌<◌, ◌^◌, IfOk, length, List, map};
+ghost use Rattle.dactl_rules.specs.Drawing.{made_in, sketch_of};
+ghost use Rattle.dactl_rules.specs.Numbers.{found, node_number};
+ghost use Rattle.dactl_rules.specs.Terms.{seen, AreDrawn};
+
+use crate::drawing::{Drawing, MOST_NODES, Sketch, Target, term};
+use crate::numbers::Numbers;
+use dactl_base::refusal::Memory;
+use dactl_syntax::tree::TermTree;
+use std::alloc::{AllocError, Global};
+
+/// A contractum: what its terms make and mention, what each of them stands for, and the numbers of
+/// the new nodes that have names.
+#[derive(Drop)]
+pub struct Contractum<'a> {
+    pub drawing: Drawing<'a>,
+    pub targets: Vec<Target<'a>>,
+    pub given: Numbers,
+}
+
+/// The numbers of the new nodes that have names.
+fn given(alloc: Global, made: &[Sketch]) -> Result<Numbers, Memory>
+    ensures { IfOk result (λ table. (w : List ℕ) → found table w ≡ node_number (map sketch_of made.now) w) }
+{
+    let mut numbers = Numbers::new(alloc);
+    for (number, sketch) in made.iter().enumerate() {
+        if let Some(name) = sketch.name {
+            numbers.note(alloc, name.text.as_slice(), number)?;
+        }
+    }
+    Ok(numbers)
+}
+
+/// Draws the terms of a contractum.
+pub fn draw<'a>(alloc: Global, terms: &[&'a TermTree]) -> Result<Contractum<'a>, Memory>
+    ensures drawn { IfOk result (λ c. AreDrawn (seen terms.now) c.drawing c.targets.items) }
+    ensures small { IfOk result (λ c. length c.drawing.made.items < 2 ^ 31) }
+    ensures given { IfOk result (λ c. (w : List ℕ) → found c.given w ≡ node_number (made_in c.drawing) w) }
+{
+    let mut drawing = Drawing {
+        made: Vec::new(alloc),
+        mentions: Vec::new(alloc),
+    };
+    let mut targets = Vec::new(alloc);
+    for tree in terms {
+        targets.push(term(alloc, &mut drawing, tree)?)?;
+    }
+    if drawing.made.len() > MOST_NODES {
+        return Err(AllocError);
+    }
+    let given = given(alloc, drawing.made.as_slice())?;
+    Ok(Contractum {
+        drawing,
+        targets,
+        given,
+    })
+}

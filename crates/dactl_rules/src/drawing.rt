@@ -1,0 +1,176 @@
+//! What the terms of a contractum make and mention.
+ghost use Rattle.std.specs.Prelude.{◌≡◌, ◌<◌, ◌^◌, [], ◌∷◌, IfOk, OnOk, count_by, map};
+ghost use Rattle.dactl_syntax.specs.Contractum.{term_draws, mentions_in};
+ghost use Rattle.dactl_rules.specs.Drawing.{next_number, node_draws, node_mentioned, arg_draws, arg_mentioned, args_draw, args_mentioned, sketch_of, named, begun, with_arcs, made_in, mentioned_in, arc_of, Grows, Draws, DrawsArc, DrawsArcs};
+
+use dactl_base::refusal::Memory;
+use dactl_syntax::tree::{ArgTree, Marks, Name, NodeTree, TermTree};
+use std::alloc::{AllocError, Global};
+
+/// How many new nodes a contractum can have. More of them are want of memory.
+pub const MOST_NODES: usize = 0x7fff_ffff;
+
+/// What a term stands for: a new node, by its number, or the node of a name.
+#[derive(Clone, Copy)]
+pub enum Target<'a> {
+    Made(u32),
+    Named(&'a [u8]),
+}
+
+/// What a new node is made of: an integer, or a symbol under its name.
+#[derive(Clone, Copy)]
+pub enum Core<'a> {
+    Number(i64),
+    Of(&'a Name),
+}
+
+/// An arc of a new node, and whether `^` stands before it.
+#[derive(Clone, Copy)]
+pub struct SketchArc<'a> {
+    pub waits: bool,
+    pub target: Target<'a>,
+}
+
+/// A new node as it is written.
+#[derive(Drop)]
+pub struct Sketch<'a> {
+    pub name: Option<&'a Name>,
+    pub marks: Marks,
+    pub core: Core<'a>,
+    pub arcs: Vec<SketchArc<'a>>,
+}
+
+impl Sketch<'_> {
+    /// How many arcs wait.
+    pub fn flags(&self) -> usize
+        ensures { result ≡ count_by (λ a. a.0) (sketch_of self.now).arcs }
+    {
+        self.arcs.iter().filter(|arc| arc.waits).count()
+    }
+}
+
+/// A name that is mentioned, and the marks before it.
+#[derive(Clone, Copy)]
+pub struct Mentioned<'a> {
+    pub name: &'a Name,
+    pub marks: Marks,
+}
+
+/// The new nodes of terms, the outer before the inner, and the names that they mention.
+#[derive(Drop)]
+pub struct Drawing<'a> {
+    pub made: Vec<Sketch<'a>>,
+    pub mentions: Vec<Mentioned<'a>>,
+}
+
+impl<'a> Drawing<'a> {
+    /// Begins a new node whose arcs are not known yet, and tells its number.
+    fn begin(
+        &mut self,
+        alloc: Global,
+        name: Option<&'a Name>,
+        marks: Marks,
+        core: Core<'a>,
+    ) -> Result<usize, Memory>
+        ensures grows { OnOk result (Grows (begun name.entry marks core.entry ∷ []) [] self.old self.new) }
+        ensures number { IfOk result (λ n. n ≡ next_number self.old) }
+        ensures small { IfOk result (λ n. n < 2 ^ 31) }
+    {
+        let number = self.made.len();
+        if number >= MOST_NODES {
+            return Err(AllocError);
+        }
+        self.made.push(Sketch {
+            name,
+            marks,
+            core,
+            arcs: Vec::new(alloc),
+        })?;
+        Ok(number)
+    }
+
+    /// Gives a new node its arcs.
+    fn finish(&mut self, number: usize, arcs: Vec<SketchArc<'a>>)
+        requires { number < next_number self.old }
+        ensures made { made_in self.new ≡ with_arcs (made_in self.old) number (map arc_of arcs.entry.items) }
+        ensures mentions { self.new.mentions ≡ self.old.mentions }
+    {
+        self.made[number].arcs = arcs;
+    }
+}
+
+#[cycle(draw)]
+fn node<'a>(
+    alloc: Global,
+    drawing: &mut Drawing<'a>,
+    tree: &'a NodeTree,
+    name: Option<&'a Name>,
+    marks: Marks,
+) -> Result<Target<'a>, Memory>
+    ensures { IfOk result (Draws (node_draws tree.now (next_number drawing.old) (named name.entry) marks) (node_mentioned tree.now) drawing.old drawing.new) }
+{
+    match tree {
+        NodeTree::Integer { value, .. } => {
+            let number = drawing.begin(alloc, name, marks, Core::Number(*value))?;
+            Ok(Target::Made(number as u32))
+        }
+        NodeTree::Sym { name: symbol, args } => {
+            let number = drawing.begin(alloc, name, marks, Core::Of(symbol))?;
+            let arcs = args_of(alloc, drawing, args.as_slice())?;
+            drawing.finish(number, arcs);
+            Ok(Target::Made(number as u32))
+        }
+    }
+}
+
+#[cycle(draw)]
+fn args_of<'a>(
+    alloc: Global,
+    drawing: &mut Drawing<'a>,
+    args: &'a [ArgTree],
+) -> Result<Vec<SketchArc<'a>>, Memory>
+    ensures { IfOk result (λ arcs. DrawsArcs (args_draw args.now (next_number drawing.old)) (args_mentioned args.now) drawing.old drawing.new arcs.items) }
+{
+    let mut arcs = Vec::new(alloc);
+    for item in args {
+        arcs.push(arg(alloc, drawing, item)?)?;
+    }
+    Ok(arcs)
+}
+
+#[cycle(draw)]
+fn arg<'a>(
+    alloc: Global,
+    drawing: &mut Drawing<'a>,
+    tree: &'a ArgTree,
+) -> Result<SketchArc<'a>, Memory>
+    ensures { IfOk result (DrawsArc (arg_draws tree.now (next_number drawing.old)) (arg_mentioned tree.now) drawing.old drawing.new) }
+{
+    let target = term(alloc, drawing, &tree.term)?;
+    Ok(SketchArc {
+        waits: tree.waits,
+        target,
+    })
+}
+
+/// Draws a term, and tells what it stands for.
+#[cycle(draw)]
+pub fn term<'a>(
+    alloc: Global,
+    drawing: &mut Drawing<'a>,
+    tree: &'a TermTree,
+) -> Result<Target<'a>, Memory>
+    ensures { IfOk result (Draws (term_draws tree.now (next_number drawing.old)) (mentions_in tree.now) drawing.old drawing.new) }
+{
+    match (&tree.name, &tree.node) {
+        (_, Some(made)) => node(alloc, drawing, made, tree.name.as_ref(), tree.marks),
+        (Some(name), None) => {
+            drawing.mentions.push(Mentioned {
+                name,
+                marks: tree.marks,
+            })?;
+            Ok(Target::Named(name.text.as_slice()))
+        }
+        (None, None) => Ok(Target::Named(&[])),
+    }
+}

@@ -1,0 +1,218 @@
+//! The faults of a contractum.
+ghost use Rattle.std.specs.Prelude.{◌≡◌, ◌++◌, ◌||◌, ℕ, List, OnOk, Contains, is_some, map};
+ghost use Rattle.std.specs.List.{flat_map};
+ghost use Rattle.dactl_syntax.specs.RuleFaults.{each_at, again, place_of};
+ghost use Rattle.dactl_syntax.specs.Contractum.{given_names};
+ghost use Rattle.dactl_symbols.specs.Scoping.{seen_in};
+ghost use Rattle.dactl_symbols.specs.Least.{TellsLeast};
+ghost use Rattle.dactl_rules.specs.Drawing.{core_of, sketch_of, mention_of, made_in, mentioned_in};
+ghost use Rattle.dactl_rules.specs.Numbers.{found, node_number, variable_number};
+ghost use Rattle.dactl_rules.specs.Told as told;
+
+use crate::contractum::Contractum;
+use crate::drawing::{Core, Mentioned, Sketch};
+use crate::numbers::Numbers;
+use crate::variables::Variables;
+use dactl_base::refusal::{Kind, Memory, Place, Refusal};
+use dactl_symbols::least::lesser;
+use dactl_symbols::sight::{Scopes, Seen};
+use dactl_syntax::tree::Marks;
+use std::alloc::Global;
+
+/// How many arguments a symbol may have.
+const MOST_ARGUMENTS: usize = 16;
+
+/// Adds the fault, if it holds.
+pub fn fault_at(
+    faults: &mut Vec<Refusal>,
+    holds: bool,
+    kind: Kind,
+    place: Place,
+) -> Result<(), Memory>
+    ensures { OnOk result (faults.new.items ≡ faults.old.items ++ told.fault_at holds kind place) }
+{
+    if holds {
+        faults.push(Refusal { kind, place })?;
+    }
+    Ok(())
+}
+
+fn core_fault(faults: &mut Vec<Refusal>, holds: bool, kind: Kind, core: Core) -> Result<(), Memory>
+    ensures { OnOk result (faults.new.items ≡ faults.old.items ++ told.core_fault holds kind (core_of core.entry)) }
+{
+    match core {
+        Core::Number(_) => Ok(()),
+        Core::Of(name) => fault_at(faults, holds, kind, name.place),
+    }
+}
+
+/// Adds a `TooWide` for each new node with too many arguments.
+fn too_wide(faults: &mut Vec<Refusal>, made: &[Sketch]) -> Result<(), Memory>
+    ensures { OnOk result (faults.new.items ≡ faults.old.items ++ flat_map told.wide_at (map sketch_of made.now)) }
+{
+    for sketch in made {
+        let holds = sketch.arcs.len() > MOST_ARGUMENTS;
+        core_fault(faults, holds, Kind::TooWide, sketch.core)?;
+    }
+    Ok(())
+}
+
+fn names_pattern(scopes: &Scopes, module: usize, core: Core) -> bool
+    ensures { result ≡ told.names_pattern (seen_in scopes.now «module») (core_of core.entry) }
+{
+    match core {
+        Core::Number(_) => false,
+        Core::Of(name) => match scopes.look(module, name.text.as_slice()) {
+            Some(Seen::Pattern { .. }) => true,
+            _ => false,
+        },
+    }
+}
+
+/// Adds a `NotCreatable` for each new node under the name of a pattern.
+fn not_creatable(
+    faults: &mut Vec<Refusal>,
+    scopes: &Scopes,
+    module: usize,
+    made: &[Sketch],
+) -> Result<(), Memory>
+    ensures { OnOk result (faults.new.items ≡ faults.old.items ++ flat_map (told.creatable_at (seen_in scopes.now «module»)) (map sketch_of made.now)) }
+{
+    for sketch in made {
+        let holds = names_pattern(scopes, module, sketch.core);
+        core_fault(faults, holds, Kind::NotCreatable, sketch.core)?;
+    }
+    Ok(())
+}
+
+fn waits_fault(faults: &mut Vec<Refusal>, flags: usize, marks: Marks) -> Result<(), Memory>
+    ensures { OnOk result (faults.new.items ≡ faults.old.items ++ told.waits_fault flags marks) }
+{
+    match marks {
+        Marks::Plain | Marks::Star { .. } => Ok(()),
+        Marks::Hashes { place, count } => {
+            fault_at(faults, flags < count as usize, Kind::TooManyWaits, place)
+        }
+    }
+}
+
+/// Adds a `TooManyWaits` for each new node with more `#` than arcs that wait.
+fn too_many_waits(faults: &mut Vec<Refusal>, made: &[Sketch]) -> Result<(), Memory>
+    ensures { OnOk result (faults.new.items ≡ faults.old.items ++ flat_map told.waits_at (map sketch_of made.now)) }
+{
+    for sketch in made {
+        waits_fault(faults, sketch.flags(), sketch.marks)?;
+    }
+    Ok(())
+}
+
+pub fn is_bound(variables: &Variables, given: &Numbers, name: &[u8]) -> bool
+    ensures { result ≡ (is_some (variable_number variables.now name.now) || is_some (found given.now name.now)) }
+{
+    variables.number(name).is_some() || given.get(name).is_some()
+}
+
+/// Adds an `Unbound` for each mention of a name that is not bound.
+fn unbound(
+    faults: &mut Vec<Refusal>,
+    variables: &Variables,
+    given: &Numbers,
+    mentions: &[Mentioned],
+) -> Result<(), Memory>
+    ensures { OnOk result (faults.new.items ≡ faults.old.items ++ flat_map (told.unbound_at (λ w. is_some (variable_number variables.now w) || is_some (found given.now w))) (map mention_of mentions.now)) }
+{
+    for mention in mentions {
+        let name = mention.name;
+        let holds = !is_bound(variables, given, name.text.as_slice());
+        fault_at(faults, holds, Kind::Unbound, name.place)?;
+    }
+    Ok(())
+}
+
+fn mark_fault(
+    faults: &mut Vec<Refusal>,
+    bound: bool,
+    variable: bool,
+    marks: Marks,
+) -> Result<(), Memory>
+    ensures { OnOk result (faults.new.items ≡ faults.old.items ++ told.mark_fault bound variable marks) }
+{
+    match marks {
+        Marks::Plain => Ok(()),
+        Marks::Star { place } => fault_at(faults, bound && !variable, Kind::MarkOnBound, place),
+        Marks::Hashes { place, .. } => fault_at(faults, bound, Kind::MarkOnBound, place),
+    }
+}
+
+/// Adds a `MarkOnBound` for each mention of a bound name with a mark that it may not have.
+fn mark_on_bound(
+    faults: &mut Vec<Refusal>,
+    variables: &Variables,
+    given: &Numbers,
+    mentions: &[Mentioned],
+) -> Result<(), Memory>
+    ensures { OnOk result (faults.new.items ≡ faults.old.items ++ flat_map (told.mark_at (λ w. is_some (variable_number variables.now w) || is_some (found given.now w)) (λ w. is_some (variable_number variables.now w))) (map mention_of mentions.now)) }
+{
+    for mention in mentions {
+        let name = mention.name.text.as_slice();
+        let bound = is_bound(variables, given, name);
+        let variable = variables.number(name).is_some();
+        mark_fault(faults, bound, variable, mention.marks)?;
+    }
+    Ok(())
+}
+
+/// Adds a `NamedTwice` for each name that is given and is a variable or was given before.
+fn named_twice(
+    alloc: Global,
+    faults: &mut Vec<Refusal>,
+    variables: &Variables,
+    made: &[Sketch],
+) -> Result<(), Memory>
+    ensures { OnOk result (faults.new.items ≡ faults.old.items ++ each_at Kind.NamedTwice (map place_of (again variables.now (given_names (map sketch_of made.now))))) }
+{
+    let mut seen = Numbers::new(alloc);
+    for sketch in made {
+        if let Some(name) = sketch.name {
+            let word = name.text.as_slice();
+            let known = is_bound(variables, &seen, word);
+            seen.note(alloc, word, 0)?;
+            fault_at(faults, known, Kind::NamedTwice, name.place)?;
+        }
+    }
+    Ok(())
+}
+
+/// Adds the faults of a contractum, kind by kind.
+pub fn contractum_faults(
+    alloc: Global,
+    faults: &mut Vec<Refusal>,
+    scopes: &Scopes,
+    module: usize,
+    variables: &Variables,
+    contractum: &Contractum,
+) -> Result<(), Memory>
+    requires { (w : List ℕ) → found contractum.now.given w ≡ node_number (made_in contractum.now.drawing) w }
+    ensures { OnOk result (faults.new.items ≡ faults.old.items ++ told.drawn_faults (seen_in scopes.now «module») variables.now (made_in contractum.now.drawing) (mentioned_in contractum.now.drawing)) }
+{
+    let made = contractum.drawing.made.as_slice();
+    let mentions = contractum.drawing.mentions.as_slice();
+    too_wide(faults, made)?;
+    unbound(faults, variables, &contractum.given, mentions)?;
+    named_twice(alloc, faults, variables, made)?;
+    not_creatable(faults, scopes, module, made)?;
+    mark_on_bound(faults, variables, &contractum.given, mentions)?;
+    too_many_waits(faults, made)?;
+    Ok(())
+}
+
+/// The first of the faults.
+pub fn first(faults: &[Refusal]) -> Option<Refusal>
+    ensures { TellsLeast (Contains faults.now) result }
+{
+    let mut least = None;
+    for fault in faults {
+        least = lesser(least, Some(*fault));
+    }
+    least
+}

@@ -1,0 +1,123 @@
+//! The left sides of a rule's redirections.
+ghost use Rattle.std.specs.Prelude.{◌≡◌, ◌++◌, ◌&&◌, ◌<◌, ◌↔◌, not, All, IsTrue, IfOk, OnOk, map};
+ghost use Rattle.std.specs.List.{filter, flat_map};
+ghost use Rattle.dactl_base.specs.declared.refusal.Kind.TheVariants as kinds;
+ghost use Rattle.dactl_model.specs.declared.program.Class.TheVariants as classes;
+ghost use Rattle.dactl_syntax.specs.Expansion.{is_among, number_in, is_overwritable as overwritable};
+ghost use Rattle.dactl_syntax.specs.RuleFaults.{each_at, again, place_of, lefts_of, is_class};
+ghost use Rattle.dactl_symbols.specs.Scoping.{class_in};
+ghost use Rattle.dactl_rules.specs.Lefts.{words, left_unbound, is_fixed, left_fixed};
+
+use crate::faults::{fault_at, is_bound};
+use crate::numbers::Numbers;
+use crate::overwriting::is_overwritable;
+use crate::variables::Variables;
+use dactl_base::refusal::{Kind, Memory, Refusal};
+use dactl_model::program::Pat;
+use dactl_symbols::sight::Scopes;
+use dactl_syntax::tree::{Name, Part};
+use std::alloc::Global;
+
+/// The left sides of the parts.
+pub fn lefts<'a>(alloc: Global, parts: &'a [Part]) -> Result<Vec<&'a Name>, Memory>
+    ensures { IfOk result (λ lefts. words lefts.items ≡ lefts_of parts.now) }
+{
+    let mut lefts = Vec::new(alloc);
+    for part in parts {
+        if let Part::Redirect { left, .. } = part {
+            lefts.push(left)?;
+        }
+    }
+    Ok(lefts)
+}
+
+/// Adds an `Unbound` for each left side that is no variable.
+pub fn unbound(
+    faults: &mut Vec<Refusal>,
+    variables: &Variables,
+    lefts: &[&Name],
+) -> Result<(), Memory>
+    ensures { OnOk result (faults.new.items ≡ faults.old.items ++ flat_map (left_unbound variables.now) (words lefts.now)) }
+{
+    for left in lefts {
+        let holds = variables.number(left.text.as_slice()).is_none();
+        fault_at(faults, holds, Kind::Unbound, left.place)?;
+    }
+    Ok(())
+}
+
+/// Adds a `RedirectedTwice` for each left side that is a variable and was one before, or is among
+/// `redirected`.
+pub fn redirected_twice(
+    alloc: Global,
+    faults: &mut Vec<Refusal>,
+    variables: &Variables,
+    redirected: &Variables,
+    lefts: &[&Name],
+) -> Result<(), Memory>
+    ensures { OnOk result (faults.new.items ≡ faults.old.items ++ each_at kinds.RedirectedTwice (map place_of (again redirected.now (filter (λ n. is_among variables.now n.text) (words lefts.now))))) }
+{
+    let mut seen = Numbers::new(alloc);
+    for left in lefts {
+        let word = left.text.as_slice();
+        if variables.number(word).is_some() {
+            let known = is_bound(redirected, &seen, word);
+            seen.note(alloc, word, 0)?;
+            fault_at(faults, known, Kind::RedirectedTwice, left.place)?;
+        }
+    }
+    Ok(())
+}
+
+/// Whether the name is a variable that may not be redirected: no name of the root, and its node not
+/// over-writable.
+fn is_fixed_variable(
+    scopes: &Scopes,
+    owner: usize,
+    variables: &Variables,
+    roots: &Variables,
+    pattern: &Pat,
+    name: &[u8],
+) -> bool
+    ensures { result ≡ is_fixed (λ f. is_class classes.Overwritable (class_in scopes.now owner f)) variables.now roots.now pattern.now name.now }
+{
+    match variables.number(name) {
+        None => false,
+        Some(number) => {
+            roots.number(name).is_none() && !is_overwritable(scopes, owner, number, pattern)
+        }
+    }
+}
+
+/// Adds a `NotOverwritable` for each left side that is a variable and may not be redirected.
+pub fn not_overwritable(
+    faults: &mut Vec<Refusal>,
+    scopes: &Scopes,
+    owner: usize,
+    variables: &Variables,
+    roots: &Variables,
+    pattern: &Pat,
+    lefts: &[&Name],
+) -> Result<(), Memory>
+    ensures { OnOk result (faults.new.items ≡ faults.old.items ++ flat_map (left_fixed (λ f. is_class classes.Overwritable (class_in scopes.now owner f)) variables.now roots.now pattern.now) (words lefts.now)) }
+{
+    for left in lefts {
+        let holds = is_fixed_variable(
+            scopes,
+            owner,
+            variables,
+            roots,
+            pattern,
+            left.text.as_slice(),
+        );
+        fault_at(faults, holds, Kind::NotOverwritable, left.place)?;
+    }
+    Ok(())
+}
+
+/// Whether all left sides stand behind the place.
+pub fn stand_behind(lefts: &[&Name], byte: u32) -> bool
+    ensures { IsTrue result ↔ All (λ n. byte < place_of n.now) lefts.now }
+{
+    lefts.iter().all(|left| byte < left.place.byte)
+}

@@ -1,0 +1,229 @@
+//! What a contractum without faults means.
+ghost use Rattle.std.specs.Prelude.{◌≡◌, ◌++◌, ◌<◌, ◌≤◌, ◌^◌, ◌&&◌, List, [], ◌∷◌, IfOk, OnOk, length, map};
+ghost use Rattle.std.specs.List.{filter_map};
+ghost use Rattle.dactl_syntax.specs.Contractum.{denotes, name_denotes, label_of, mark_of, fresh_of, left_of_part, term_of_part, moves_of};
+ghost use Rattle.dactl_symbols.specs.Scoping.{seen_in};
+ghost use Rattle.dactl_rules.specs.Drawing.{target_of, core_of, arc_of, sketch_of, mention_of, made_in, mentioned_in};
+ghost use Rattle.dactl_rules.specs.Terms.{IsReady, AreDrawn};
+ghost use Rattle.dactl_syntax.specs.Expansion.{number_in};
+ghost use Rattle.dactl_rules.specs.Meant.{arc_meant, wake_of, moves_by, root_by};
+
+use crate::contractum::Contractum;
+use crate::drawing::{Core, Mentioned, Sketch, SketchArc, Target};
+use crate::variables::Variables;
+use dactl_base::refusal::Memory;
+use dactl_model::graph::{Label, Mark};
+use dactl_model::program::{FreshArc, FreshNode, Left, Mention, Move};
+use dactl_symbols::sight::{Scopes, Seen};
+use dactl_syntax::tree::{Marks, Part};
+use sqlite_items::Items;
+use std::alloc::{AllocError, Global};
+
+fn label(scopes: &Scopes, module: usize, core: Core) -> Label
+    ensures { result ≡ label_of (seen_in scopes.now «module») (core_of core.entry) }
+{
+    match core {
+        Core::Number(value) => Label::Integer(value),
+        Core::Of(name) => match scopes.look(module, name.text.as_slice()) {
+            Some(Seen::Symbol { id, .. }) => Label::Symbol(id),
+            _ => Label::Symbol(0),
+        },
+    }
+}
+
+/// The mark of a new node. More than 255 hashes, which no node without a fault has, are want of
+/// memory.
+fn mark(marks: Marks) -> Result<Mark, Memory>
+    ensures { IfOk result (λ m. m ≡ mark_of marks) }
+{
+    match marks {
+        Marks::Plain => Ok(Mark::Idle),
+        Marks::Star { .. } => Ok(Mark::Active),
+        Marks::Hashes { count, .. } => {
+            if count > 255 {
+                return Err(AllocError);
+            }
+            Ok(Mark::Waiting(count as u8))
+        }
+    }
+}
+
+impl Contractum<'_> {
+    /// The node that a name stands for.
+    fn named(&self, variables: &Variables, name: &[u8]) -> Mention
+        requires { IsReady variables.now self.now }
+        ensures { result ≡ name_denotes variables.now (made_in self.now.drawing) name.now }
+    {
+        if let Some(number) = variables.small_number(name) {
+            return Mention::Old(number);
+        }
+        match self.given.get(name) {
+            Some(number) => Mention::Fresh(number as u32),
+            None => Mention::Fresh(self.drawing.made.len() as u32),
+        }
+    }
+
+    /// The node that is meant.
+    pub fn meant(&self, variables: &Variables, target: Target) -> Mention
+        requires { IsReady variables.now self.now }
+        ensures { result ≡ denotes variables.now (made_in self.now.drawing) (target_of target.entry) }
+    {
+        match target {
+            Target::Made(number) => Mention::Fresh(number),
+            Target::Named(name) => self.named(variables, name),
+        }
+    }
+
+    fn arcs(
+        &self,
+        alloc: Global,
+        variables: &Variables,
+        arcs: &[SketchArc],
+    ) -> Result<Items<FreshArc>, Memory>
+        requires { IsReady variables.now self.now }
+        ensures { IfOk result (λ meant. meant ≡ map (arc_meant variables.now (made_in self.now.drawing)) (map arc_of arcs.now)) }
+    {
+        let mut meant = Vec::new(alloc);
+        for arc in arcs {
+            meant.push(FreshArc {
+                to: self.meant(variables, arc.target),
+                waits: arc.waits,
+            })?;
+        }
+        Ok(Items::from_vec(meant))
+    }
+
+    fn node(
+        &self,
+        alloc: Global,
+        scopes: &Scopes,
+        module: usize,
+        variables: &Variables,
+        sketch: &Sketch,
+    ) -> Result<FreshNode, Memory>
+        requires { IsReady variables.now self.now }
+        ensures { IfOk result (λ node. node ≡ fresh_of (seen_in scopes.now «module») variables.now (made_in self.now.drawing) (sketch_of sketch.now)) }
+    {
+        let label = label(scopes, module, sketch.core);
+        let arcs = self.arcs(alloc, variables, sketch.arcs.as_slice())?;
+        let mark = mark(sketch.marks)?;
+        Ok(FreshNode { label, arcs, mark })
+    }
+
+    /// The new nodes.
+    pub fn fresh(
+        &self,
+        alloc: Global,
+        scopes: &Scopes,
+        module: usize,
+        variables: &Variables,
+    ) -> Result<Items<FreshNode>, Memory>
+        requires { IsReady variables.now self.now }
+        ensures { IfOk result (λ fresh. fresh ≡ map (fresh_of (seen_in scopes.now «module») variables.now (made_in self.now.drawing)) (made_in self.now.drawing)) }
+    {
+        let mut fresh = Vec::new(alloc);
+        for sketch in self.drawing.made.as_slice() {
+            fresh.push(self.node(alloc, scopes, module, variables, sketch)?)?;
+        }
+        Ok(Items::from_vec(fresh))
+    }
+
+    /// The variables whose nodes wake.
+    pub fn wakes(&self, alloc: Global, variables: &Variables) -> Result<Items<u8>, Memory>
+        requires { IsReady variables.now self.now }
+        ensures { IfOk result (λ wakes. wakes ≡ filter_map (wake_of variables.now) (mentioned_in self.now.drawing)) }
+    {
+        let mut wakes = Vec::new(alloc);
+        for mention in self.drawing.mentions.as_slice() {
+            if let Some(variable) = woken(variables, *mention) {
+                wakes.push(variable)?;
+            }
+        }
+        Ok(Items::from_vec(wakes))
+    }
+
+    /// Adds the redirections of the parts to `moves`.
+    fn push_moves(
+        &self,
+        moves: &mut Vec<Move>,
+        variables: &Variables,
+        parts: &[Part],
+    ) -> Result<(), Memory>
+        requires ready { IsReady variables.now self.now }
+        requires parts { length parts.now ≡ length self.now.targets.items }
+        ensures { OnOk result (moves.new.items ≡ moves.old.items ++ moves_by variables.now (made_in self.now.drawing) parts.now (map target_of self.now.targets.items)) }
+    {
+        for (number, part) in parts.iter().enumerate() {
+            if let Part::Redirect { left, .. } = part {
+                let from = Left::Variable(number_of(variables, left.text.as_slice()));
+                let to = self.meant(variables, self.targets[number]);
+                moves.push(Move { from, to })?;
+            }
+        }
+        Ok(())
+    }
+
+    /// The redirections of the parts whose terms these are; `redirects` says that the root is
+    /// redirected first.
+    pub fn moves(
+        &self,
+        alloc: Global,
+        variables: &Variables,
+        redirects: bool,
+        parts: &[Part],
+    ) -> Result<Items<Move>, Memory>
+        requires ready { IsReady variables.now self.now }
+        requires drawn { AreDrawn (map term_of_part parts.now) self.now.drawing self.now.targets.items }
+        ensures { IfOk result (λ moves. moves ≡ moves_of variables.now redirects parts.now) }
+    {
+        let mut moves = self.root_moves(alloc, variables, redirects)?;
+        self.push_moves(&mut moves, variables, parts)?;
+        Ok(Items::from_vec(moves))
+    }
+
+    /// The redirection of the root to what the first term stands for, if the root is redirected.
+    fn root_moves(
+        &self,
+        alloc: Global,
+        variables: &Variables,
+        redirects: bool,
+    ) -> Result<Vec<Move>, Memory>
+        requires { IsReady variables.now self.now }
+        ensures { IfOk result (λ moves. moves.items ≡ root_by variables.now (made_in self.now.drawing) redirects (map target_of self.now.targets.items)) }
+    {
+        let mut moves = Vec::new(alloc);
+        match self.targets.as_slice() {
+            [target, ..] if redirects => {
+                let to = self.meant(variables, *target);
+                moves.push(Move {
+                    from: Left::Root,
+                    to,
+                })?;
+            }
+            _ => {}
+        }
+        Ok(moves)
+    }
+}
+
+/// The number of a name among the variables: their count where it is none of them.
+fn number_of(variables: &Variables, name: &[u8]) -> u8
+    requires { length variables.now ≤ 64 }
+    ensures { result ≡ number_in variables.now name.now }
+{
+    match variables.small_number(name) {
+        Some(number) => number,
+        None => variables.count() as u8,
+    }
+}
+
+/// The variable that a mention wakes.
+fn woken(variables: &Variables, mention: Mentioned) -> Option<u8>
+    requires { length variables.now ≤ 64 }
+    ensures { result ≡ wake_of variables.now (mention_of mention.entry) }
+{
+    match mention.marks {
+        Marks::Star { .. } => variables.small_number(mention.name.text.as_slice()),
+        _ => None,
+    }
+}
