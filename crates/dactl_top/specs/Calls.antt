@@ -1,81 +1,127 @@
 -- Why a call answers as it does, and what it leaves.
-use Rattle.std.specs.Prelude.{◌≡◌, ℕ, ◌<◌, ◌≤◌, ◌⊎◌, List, [], ◌++◌, length, Some, None}
+use Rattle.std.specs.Prelude.{◌≡◌, ℕ, ◌*◌, ◌<◌, ◌≤◌, ◌⊎◌, Bool, true, false, List, [], ◌++◌, length, Some, None, Result, Ok, Err, IsErr}
 use Rattle.std.specs.declared.option.Option.{Option}
+use Rattle.std.specs.Io.KnownBytes.{Appends}
+use Rattle.dactl_base.specs.Bytes.{AppendsFront}
+use Rattle.dactl_base.specs.Faults.{Rose}
+use Rattle.dactl_base.specs.declared.refusal.Refusal.{Refusal}
 use Rattle.dactl_model.specs.declared.graph.NodeId.{NodeId}
 use Rattle.dactl_model.specs.declared.graph.Graph.{Graph}
 use Rattle.dactl_model.specs.declared.graph.Room.{Room}
 use Rattle.dactl_model.specs.declared.graph.Limits.{Limits}
+use Rattle.dactl_model.specs.declared.graph.Entry.{Entry}
 use Rattle.dactl_model.specs.declared.graph.End.{End}
 use Rattle.dactl_model.specs.declared.graph.End.TheVariants as end
 use Rattle.dactl_model.specs.declared.program.Program.{Program}
-use Rattle.dactl_top.specs.declared.kept.Kept.{Kept}
-use Rattle.dactl_top.specs.declared.status.Status.{Status}
-use Rattle.dactl_top.specs.declared.status.Status.TheVariants.{Normal, Budget, Usage, Full, ReadFault, WriteFault, Memory, TooLong, Small, NotBuilt}
-use Rattle.dactl_top.specs.Input.{IsWholeText, IsLongText, IsFailedText}
-use Rattle.dactl_top.specs.Running.{IsRun, IsTooSmall, start_room}
-use Rattle.dactl_top.specs.Lines.{line_of, small_line}
-use Rattle.std.specs.Io.KnownBytes.{Appends}
-use Rattle.dactl_base.specs.Bytes.{AppendsFront}
-use Rattle.dactl_base.specs.Faults.{Rose}
 use Rattle.dactl_model.specs.Programs.{IsValid}
 use Rattle.dactl_model.specs.Firing.{start_of}
 use Rattle.dactl_model.specs.Steps.{Reduction}
-use Rattle.dactl_print.specs.Texts.{end_line}
+use Rattle.dactl_print.specs.Texts.{end_line, trace_lines}
 use Rattle.dactl_print.specs.Lines.{IsGraphText}
+use Rattle.dactl_sample.specs.Sample.{IsSample}
+use Rattle.dactl_settings.specs.declared.settings.Settings.{Settings}
+use Rattle.dactl_settings.specs.Reading.{settings_of}
+use Rattle.dactl_top.specs.declared.kept.Kept.{Kept}
+use Rattle.dactl_top.specs.declared.status.Status.{Status}
+use Rattle.dactl_top.specs.declared.status.Status.TheVariants.{Normal, Checked, Budget, Usage, Refused, Full, ReadFault, WriteFault, Memory, TooLong, Small, NotBuilt}
+use Rattle.dactl_top.specs.Compiling.{IsNamed, IsFaultOf}
+use Rattle.dactl_top.specs.Input.{IsWholeText, IsLongText, IsFailedText}
+use Rattle.dactl_top.specs.Lines.{line_of, small_line, refused_line}
+use Rattle.dactl_top.specs.Running.{IsRun, IsTooSmall, start_room}
 
 -- nothing is kept yet
 pub record IsEmpty (kept : Kept) : Type 0 where
+  pub settings : kept.settings ≡ None
   pub text : kept.text.items ≡ []
+  pub refusal : kept.refusal ≡ None
   pub program : kept.program ≡ None
   pub journal : kept.journal.items ≡ []
   pub end : kept.end ≡ None
 
--- what a call is about: how many words it had, what its source had left and how many faults, before and after, and what it kept
+-- what a call is about: its words, what its source had left and how many faults, before and after, and what it kept
 pub record Call : Type 0 where
-  pub words : ℕ
+  pub words : List (List ℕ)
   pub left : Option (List ℕ)
   pub left_after : Option (List ℕ)
   pub faults : ℕ
   pub faults_after : ℕ
   pub kept : Kept
 
+-- ---- what is kept
+
 -- no run is kept
 pub record HasNoRun (kept : Kept) : Type 0 where
   pub journal : kept.journal.items ≡ []
   pub end : kept.end ≡ None
 
--- the room and the budget of every run
-abbrev pub limits : Limits
-limits = record { nodes = 200000; arcs = 800000; budget = 1000 }
+-- nothing is kept of what the text says
+pub record HasNothing (kept : Kept) : Type 0 where
+  pub refusal : kept.refusal ≡ None
+  pub program : kept.program ≡ None
+  pub none : HasNoRun kept
+
+-- a program is kept that the kept text was read as; no names of the text have a fault
+pub record HasProgram (kept : Kept) (p : Program) : Type 0 where
+  pub refusal : kept.refusal ≡ None
+  pub program : kept.program ≡ Some p
+  pub means : IsNamed kept.text.items
+  pub valid : IsValid p
+
+-- the first fault of the kept text is kept
+pub record HasRefusal (kept : Kept) : Type 0 where
+  pub fault : Refusal
+  pub refusal : kept.refusal ≡ Some fault
+  pub is_first : IsFaultOf kept.text.items fault
+  pub program : kept.program ≡ None
+  pub none : HasNoRun kept
+
+-- the names of the kept text have no fault, and it goes beyond what is built
+pub record HasNotBuilt (kept : Kept) : Type 0 where
+  pub named : IsNamed kept.text.items
+  pub nothing : HasNothing kept
+
+-- the limits of a run: so many nodes, four arcs for each, and the budget of entries
+abbrev pub limits_of : Settings → Limits
+limits_of s = record { nodes = s.nodes; arcs = 4 * s.nodes; budget = s.budget }
+
+-- the program is kept and the text was only to be checked
+pub record HasChecked (s : Settings) (kept : Kept) : Type 0 where
+  pub check : s.check ≡ true
+  pub program : Program
+  pub has : HasProgram kept program
+  pub none : HasNoRun kept
+
+-- the first graph of the kept program does not fit the room
+pub record HasSmall (s : Settings) (kept : Kept) : Type 0 where
+  pub check : s.check ≡ false
+  pub program : Program
+  pub needed : Room
+  pub has : HasProgram kept program
+  pub small : IsTooSmall (limits_of s) program needed
+  pub none : HasNoRun kept
 
 -- what is kept is a run of the kept program, from its first graph to this end, within the limits
-pub record HasRun (kept : Kept) (ended : End) : Type 0 where
+pub record HasRun (s : Settings) (kept : Kept) (ended : End) : Type 0 where
+  pub check : s.check ≡ false
   pub program : Program
   pub graph : Graph
-  pub is_program : kept.program ≡ Some program
+  pub has : HasProgram kept program
   pub is_end : kept.end ≡ Some ended
-  pub run : IsRun program limits kept.journal.items graph ended
+  pub run : IsRun program (limits_of s) kept.journal.items graph ended
 
 -- what is kept is a run that ended full
-pub record HasFullRun (kept : Kept) : Type 0 where
+pub record HasFullRun (s : Settings) (kept : Kept) : Type 0 where
   pub node : NodeId
   pub rule : ℕ
   pub needed : Room
   pub left : Room
-  pub run : HasRun kept (end.Full node rule needed left)
+  pub run : HasRun s kept (end.Full node rule needed left)
 
--- the first graph of the kept program does not fit the room
-pub record HasSmall (kept : Kept) : Type 0 where
-  pub program : Program
-  pub needed : Room
-  pub is_program : kept.program ≡ Some program
-  pub small : IsTooSmall limits program needed
+-- memory was wanting before any line was written: no run is kept, and nothing but what the text says
+pub record HasNoMemory (kept : Kept) : Type 0 where
   pub none : HasNoRun kept
-
--- no program is kept
-pub record HasNoProgram (kept : Kept) : Type 0 where
-  pub program : kept.program ≡ None
-  pub none : HasNoRun kept
+  pub refusal : kept.refusal ≡ None
+  pub program : (p : Program) → kept.program ≡ Some p → IsNamed kept.text.items
 
 -- the answer that tells an end
 abbrev pub IsStatusOf : End → Status → Type 0
@@ -83,60 +129,88 @@ IsStatusOf end.Normal status = status ≡ Normal
 IsStatusOf end.Budget status = status ≡ Budget
 IsStatusOf (end.Full node rule needed left) status = status ≡ Full
 
--- why an answer is given to a text that was read to its end, by what is kept
-abbrev pub IsKept : Kept → Status → Type 0
-IsKept kept Normal = HasRun kept end.Normal
-IsKept kept Budget = HasRun kept end.Budget
-IsKept kept Full = HasFullRun kept
-IsKept kept Small = HasSmall kept
-IsKept kept NotBuilt = HasNoProgram kept
-IsKept kept Memory = HasNoRun kept
-IsKept kept Usage = ⊥
-IsKept kept ReadFault = ⊥
-IsKept kept WriteFault = ⊥
-IsKept kept TooLong = ⊥
+-- why an answer is given to a text that is there whole, by the settings and by what is kept
+abbrev pub IsKept : Settings → Kept → Status → Type 0
+IsKept s kept Normal = HasRun s kept end.Normal
+IsKept s kept Checked = HasChecked s kept
+IsKept s kept Budget = HasRun s kept end.Budget
+IsKept s kept Full = HasFullRun s kept
+IsKept s kept Small = HasSmall s kept
+IsKept s kept Refused = HasRefusal kept
+IsKept s kept NotBuilt = HasNotBuilt kept
+IsKept s kept Memory = HasNoMemory kept
+IsKept s kept Usage = ⊥
+IsKept s kept ReadFault = ⊥
+IsKept s kept WriteFault = ⊥
+IsKept s kept TooLong = ⊥
 
--- the words are not the program's name alone, and nothing was read
+-- ---- why an answer is given
+
+-- the source is as it was
+pub record IsUnread (call : Call) : Type 0 where
+  pub left : call.left_after ≡ call.left
+  pub faults : call.faults_after ≡ call.faults
+
+-- the words are no settings, and nothing was read
 pub record HasUsage (call : Call) : Type 0 where
-  pub words : 1 < call.words
-  pub unread : call.left_after ≡ call.left
+  pub words : IsErr (settings_of call.words)
+  pub unread : IsUnread call
   pub kept : IsEmpty call.kept
+
+-- the settings of the words are kept
+pub record HasSettings (call : Call) (s : Settings) : Type 0 where
+  pub words : settings_of call.words ≡ Ok s
+  pub kept : call.kept.settings ≡ Some s
+
+-- the kept text is the sample text, and the source was not read; or, where none is asked for, it is all that the source gave to its end
+abbrev pub IsText : Call → Option ℕ → Type 0
+IsText call (Some count) = IsSample count call.kept.text.items × IsUnread call
+IsText call None = IsWholeText call.left call.left_after call.kept.text.items
 
 -- the source failed, and what it gave before is kept
 pub record HasReadFault (call : Call) : Type 0 where
-  pub words : call.words ≤ 1
+  pub settings : Settings
+  pub has : HasSettings call settings
+  pub no_sample : settings.sample ≡ None
   pub text : IsFailedText call.left call.left_after call.faults call.faults_after call.kept.text.items
-  pub none : HasNoProgram call.kept
+  pub none : HasNothing call.kept
 
 -- the source gave more than a text may have
 pub record HasLongText (call : Call) : Type 0 where
-  pub words : call.words ≤ 1
+  pub settings : Settings
+  pub has : HasSettings call settings
+  pub no_sample : settings.sample ≡ None
   pub text : IsLongText call.left call.left_after call.kept.text.items
-  pub none : HasNoProgram call.kept
+  pub none : HasNothing call.kept
 
--- memory was wanting before any line was written
-pub record HasNoMemory (call : Call) : Type 0 where
-  pub words : call.words ≤ 1
-  pub none : HasNoRun call.kept
+-- memory was wanting; where the sample text was asked for, the source was not read
+pub record HasMemory (call : Call) : Type 0 where
+  pub kept : HasNoMemory call.kept
+  pub unread : (s : Settings) (count : ℕ) → settings_of call.words ≡ Ok s → s.sample ≡ Some count → IsUnread call
 
--- there was one word, the program's name, the whole text was read, and what is kept gives the answer
+-- the whole text is kept, and what is kept gives the answer
 pub record HasText (call : Call) (answer : Status) : Type 0 where
-  pub words : call.words ≤ 1
-  pub text : IsWholeText call.left call.left_after call.kept.text.items
-  pub kept : IsKept call.kept answer
+  pub settings : Settings
+  pub has : HasSettings call settings
+  pub text : IsText call settings.sample
+  pub kept : IsKept settings call.kept answer
 
 -- why a call gives an answer, where the sink takes it
 abbrev pub HasCause : Call → Status → Type 0
 HasCause call Normal = HasText call Normal
+HasCause call Checked = HasText call Checked
 HasCause call Budget = HasText call Budget
 HasCause call Full = HasText call Full
 HasCause call Small = HasText call Small
+HasCause call Refused = HasText call Refused
 HasCause call NotBuilt = HasText call NotBuilt
 HasCause call Usage = HasUsage call
 HasCause call ReadFault = HasReadFault call
 HasCause call TooLong = HasLongText call
-HasCause call Memory = HasNoMemory call
+HasCause call Memory = HasMemory call
 HasCause call WriteFault = ⊥
+
+-- ---- what is written
 
 -- what the first graph of the kept program takes is told in one line
 pub record IsSmallLine (kept : Kept) (due : List ℕ) : Type 0 where
@@ -144,18 +218,31 @@ pub record IsSmallLine (kept : Kept) (due : List ℕ) : Type 0 where
   pub is_program : kept.program ≡ Some program
   pub line : due ≡ small_line (start_room program)
 
--- the end line of the kept run, and the graph to which the kept journal leads, below its root
+-- why the kept text is refused is told in one line
+pub record IsRefusedLine (kept : Kept) (due : List ℕ) : Type 0 where
+  pub fault : Refusal
+  pub is_fault : kept.refusal ≡ Some fault
+  pub line : due ≡ refused_line fault
+
+-- the trace, where it is asked for
+abbrev pub trace_if : Bool → List Entry → List ℕ
+trace_if false journal = []
+trace_if true journal = trace_lines journal
+
+-- the end line of the kept run, its trace where one is asked for, and the graph to which the kept journal leads, below its root
 pub record IsRunText (kept : Kept) (due : List ℕ) : Type 0 where
+  pub settings : Settings
   pub program : Program
   pub ended : End
   pub graph : Graph
   pub text : List ℕ
+  pub is_settings : kept.settings ≡ Some settings
   pub is_program : kept.program ≡ Some program
   pub is_end : kept.end ≡ Some ended
   pub valid : IsValid program
   pub reduction : Reduction program (start_of program.start) kept.journal.items graph
   pub is_text : IsGraphText program graph text
-  pub parts : due ≡ end_line ended (length kept.journal.items) ++ text
+  pub parts : due ≡ end_line ended (length kept.journal.items) ++ trace_if settings.trace kept.journal.items ++ text
 
 -- the bytes that are due for an answer
 abbrev pub IsDue : Kept → Status → List ℕ → Type 0
@@ -163,7 +250,9 @@ IsDue kept Usage due = due ≡ line_of Usage
 IsDue kept ReadFault due = due ≡ line_of ReadFault
 IsDue kept Memory due = due ≡ line_of Memory
 IsDue kept TooLong due = due ≡ line_of TooLong
+IsDue kept Checked due = due ≡ line_of Checked
 IsDue kept NotBuilt due = due ≡ line_of NotBuilt
+IsDue kept Refused due = IsRefusedLine kept due
 IsDue kept Small due = IsSmallLine kept due
 IsDue kept Normal due = IsRunText kept due
 IsDue kept Budget due = IsRunText kept due
@@ -176,7 +265,9 @@ IsLine Usage = Unit {0}
 IsLine ReadFault = Unit {0}
 IsLine Memory = Unit {0}
 IsLine TooLong = Unit {0}
+IsLine Checked = Unit {0}
 IsLine NotBuilt = Unit {0}
+IsLine Refused = ⊥
 IsLine Normal = ⊥
 IsLine Budget = ⊥
 IsLine Full = ⊥
@@ -205,8 +296,8 @@ pub record IsAnswered (call : Call) (held held' : Option (List ℕ)) (faults fau
   pub cause : HasCause call wanted
   pub given : IsGiven call.kept held held' faults faults' wanted answer
 
--- the same of the part of a call that has the text
-pub record IsTextAnswered (kept : Kept) (held held' : Option (List ℕ)) (faults faults' : ℕ) (answer : Status) : Type 0 where
+-- the same of the part of a call that has the settings and the text
+pub record IsTextAnswered (s : Settings) (kept : Kept) (held held' : Option (List ℕ)) (faults faults' : ℕ) (answer : Status) : Type 0 where
   pub wanted : Status
-  pub cause : IsKept kept wanted
+  pub cause : IsKept s kept wanted
   pub given : IsGiven kept held held' faults faults' wanted answer

@@ -1,14 +1,19 @@
 -- The exit code of each answer, and the line of each answer that is one line alone.
 use Rattle.std.specs.Prelude.{ℕ, List, codes, [], ◌++◌, decimal}
+use Rattle.dactl_base.specs.declared.refusal.Kind.{Kind}
+use Rattle.dactl_base.specs.declared.refusal.Kind.TheVariants as kinds
+use Rattle.dactl_base.specs.declared.refusal.Refusal.{Refusal}
 use Rattle.dactl_model.specs.declared.graph.Room.{Room}
 use Rattle.dactl_top.specs.declared.status.Status.{Status}
-use Rattle.dactl_top.specs.declared.status.Status.TheVariants.{Normal, Budget, Usage, Full, ReadFault, WriteFault, Memory, TooLong, Small, NotBuilt}
+use Rattle.dactl_top.specs.declared.status.Status.TheVariants.{Normal, Checked, Budget, Usage, Refused, Full, ReadFault, WriteFault, Memory, TooLong, Small, NotBuilt}
 
 -- what the process ends with
 abbrev pub code_of : Status → ℕ
 code_of Normal = 0
+code_of Checked = 0
 code_of Budget = 1
 code_of Usage = 2
+code_of Refused = 3
 code_of Full = 4
 code_of ReadFault = 5
 code_of WriteFault = 6
@@ -20,8 +25,10 @@ code_of NotBuilt = 10
 -- the whole output of an answer that is one line, told alike whatever was read
 abbrev pub line_of : Status → List ℕ
 line_of Normal = []
+line_of Checked = codes "ok\n"
 line_of Budget = []
 line_of Usage = codes "usage: dactl [OPTIONS] < TEXT\n"
+line_of Refused = []
 line_of Full = []
 line_of ReadFault = codes "read fault\n"
 line_of WriteFault = []
@@ -33,3 +40,33 @@ line_of NotBuilt = codes "not built\n"
 -- the line that tells what the first graph needs
 abbrev pub small_line : Room → List ℕ
 small_line needed = codes "small " ++ decimal needed.nodes ++ codes " " ++ decimal needed.arcs ++ codes "\n"
+
+-- the name of a kind of fault
+abbrev pub kind_name : Kind → List ℕ
+kind_name kinds.BadByte = codes "BadByte"
+kind_name kinds.NumberTooWide = codes "NumberTooWide"
+kind_name kinds.Unexpected = codes "Unexpected"
+kind_name kinds.TooDeep = codes "TooDeep"
+kind_name kinds.TwiceDeclared = codes "TwiceDeclared"
+kind_name kinds.UnknownModule = codes "UnknownModule"
+kind_name kinds.UnknownName = codes "UnknownName"
+kind_name kinds.NotVisible = codes "NotVisible"
+kind_name kinds.PublicTooStrong = codes "PublicTooStrong"
+kind_name kinds.NoInitial = codes "NoInitial"
+kind_name kinds.TwoInitials = codes "TwoInitials"
+kind_name kinds.TooMany = codes "TooMany"
+kind_name kinds.PatternCycle = codes "PatternCycle"
+kind_name kinds.RootNotRewritable = codes "RootNotRewritable"
+kind_name kinds.BinderInChoice = codes "BinderInChoice"
+kind_name kinds.TooWide = codes "TooWide"
+kind_name kinds.Unbound = codes "Unbound"
+kind_name kinds.NamedTwice = codes "NamedTwice"
+kind_name kinds.RedirectedTwice = codes "RedirectedTwice"
+kind_name kinds.NotOverwritable = codes "NotOverwritable"
+kind_name kinds.NotCreatable = codes "NotCreatable"
+kind_name kinds.MarkOnBound = codes "MarkOnBound"
+kind_name kinds.TooManyWaits = codes "TooManyWaits"
+
+-- the line that tells why a text is refused, and at which byte
+abbrev pub refused_line : Refusal → List ℕ
+refused_line r = codes "refused " ++ kind_name r.kind ++ codes " " ++ decimal r.place.byte ++ codes "\n"

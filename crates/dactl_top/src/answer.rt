@@ -25,6 +25,7 @@ fn line(status: Status) -> &'static [u8]
         Status::ReadFault => b"read fault\n",
         Status::Memory => b"memory\n",
         Status::TooLong => b"too long\n",
+        Status::Checked => b"ok\n",
         Status::NotBuilt => b"not built\n",
         _ => b"",
     }

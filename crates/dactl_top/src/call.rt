@@ -1,32 +1,46 @@
 //! The top call.
 
-ghost use Rattle.std.specs.Prelude.{◌≡◌, ◌<◌, ◌≤◌, ◌⊎◌, length, IfOk, OnErr, None};
+ghost use Rattle.std.specs.Prelude.{◌≡◌, ◌≤◌, ◌<◌, ◌⊎◌, ℕ, List, length, map, Some, IsErr, Ok, false};
+ghost use Rattle.std.specs.String.{string_bytes};
 ghost use Rattle.dactl_base.specs.Faults.{Rose};
 ghost use Rattle.dactl_model.specs.Programs.{IsValid};
-ghost use Rattle.dactl_top.specs.Calls.{IsEmpty, HasNoRun, HasNoProgram, IsStatusOf, IsTextAnswered, IsAnswered, HasRun, HasFullRun, HasSmall, limits};
-ghost use Rattle.dactl_top.specs.Running.{IsTooSmall, IsFinished};
+ghost use Rattle.dactl_settings.specs.Reading.{settings_of};
+ghost use Rattle.dactl_settings.specs.Limits.{IsWithinLimits};
+ghost use Rattle.dactl_settings.specs.declared.settings.Settings as setting;
+ghost use Rattle.dactl_top.specs.Calls.{IsEmpty, HasNothing, HasText, IsStatusOf, IsTextAnswered, IsAnswered, limits_of};
+ghost use Rattle.dactl_top.specs.Compiling.{IsNamed, IsFaultOf};
 ghost use Rattle.dactl_top.specs.Input.{longest};
+ghost use Rattle.dactl_top.specs.Running.{IsTooSmall, IsFinished};
 
 use crate::answer::{give_line, write_line};
-use crate::input::{Input, read_all};
+use crate::compile::names;
+use crate::input::{Input, take_text};
 use crate::kept::Kept;
-use crate::output;
+use crate::lines::{refused_line, small_line};
+use crate::output::write_run;
 use crate::run::{Finished, Outcome, run};
 use crate::status::Status;
+use dactl_base::refusal::{Refusal, TextFault};
 use dactl_base::sink::Sink;
 use dactl_base::source::Source;
+use dactl_first::{FirstFault, parse_first};
 use dactl_model::graph::{End, Limits, Room};
 use dactl_model::program::Program;
 use dactl_print::printer::Numbering;
-use dactl_syntax::first::{FirstFault, parse_first};
+use dactl_settings::{Settings, UsageFault, read_settings};
 use std::alloc::{AllocError, Global};
 
-/// The room and the budget of every run, until they are settings.
-const LIMITS: Limits = Limits {
-    nodes: 200_000,
-    arcs: 800_000,
-    budget: 1_000,
-};
+// Four arcs for each node.
+fn limits_of(settings: Settings) -> Limits
+    requires { IsWithinLimits settings }
+    ensures { result ≡ limits_of settings }
+{
+    Limits {
+        nodes: settings.nodes,
+        arcs: 4 * settings.nodes,
+        budget: settings.budget,
+    }
+}
 
 fn status_of(end: End) -> Status
     ensures { IsStatusOf end result }
@@ -38,20 +52,49 @@ fn status_of(end: End) -> Status
     }
 }
 
+// Keeps why the text is refused, and tells it.
+fn answer_refused<K: Sink>(
+    alloc: Global,
+    settings: Settings,
+    sink: &mut K,
+    refusal: Refusal,
+    kept: &mut Kept,
+) -> Status
+    requires fault { IsFaultOf kept.old.text.items refusal }
+    requires none { HasNothing kept.old }
+    ensures answered { IsTextAnswered settings kept.new (K.holds sink.old) (K.holds sink.new) (K.faults sink.old) (K.faults sink.new) result }
+    ensures text { kept.new.text ≡ kept.old.text }
+    ensures settings { kept.new.settings ≡ kept.old.settings }
+{
+    let Ok(due) = refused_line(alloc, refusal) else {
+        return give_line(sink, Status::Memory);
+    };
+    kept.refusal = Some(refusal);
+    match write_line(sink, due.as_slice()) {
+        Ok(()) => Status::Refused,
+        Err(_) => Status::WriteFault,
+    }
+}
+
 // Keeps a program whose first graph does not fit, and tells what that graph needs.
 fn answer_small<K: Sink>(
     alloc: Global,
+    settings: Settings,
     sink: &mut K,
     program: Program,
     needed: Room,
     kept: &mut Kept,
 ) -> Status
-    requires small { IsTooSmall limits program needed }
-    requires none { HasNoProgram kept.old }
-    ensures answered { IsTextAnswered kept.new (K.holds sink.old) (K.holds sink.new) (K.faults sink.old) (K.faults sink.new) result }
+    requires check { settings.check ≡ false }
+    requires means { IsNamed kept.old.text.items }
+    requires valid { IsValid program }
+    requires small { IsTooSmall (limits_of settings) program needed }
+    requires none { HasNothing kept.old }
+    ensures answered { IsTextAnswered settings kept.new (K.holds sink.old) (K.holds sink.new) (K.faults sink.old) (K.faults sink.new) result }
     ensures text { kept.new.text ≡ kept.old.text }
+    ensures settings { kept.new.settings ≡ kept.old.settings }
 {
-    let Ok(due) = output::of_small(alloc, needed) else {
+    let Ok(due) = small_line(alloc, needed) else {
         return give_line(sink, Status::Memory);
     };
     kept.program = Some(program);
@@ -64,18 +107,24 @@ fn answer_small<K: Sink>(
 // Keeps a program and its run, and writes the output of the run.
 fn answer_run<K: Sink>(
     alloc: Global,
+    settings: Settings,
     sink: &mut K,
     program: Program,
     finished: Finished,
     kept: &mut Kept,
 ) -> Status
+    requires limits { IsWithinLimits settings }
+    requires check { settings.check ≡ false }
+    requires means { IsNamed kept.old.text.items }
     requires valid { IsValid program }
-    requires finished { IsFinished program limits finished }
-    requires none { HasNoProgram kept.old }
-    ensures answered { IsTextAnswered kept.new (K.holds sink.old) (K.holds sink.new) (K.faults sink.old) (K.faults sink.new) result }
+    requires finished { IsFinished program (limits_of settings) finished }
+    requires none { HasNothing kept.old }
+    requires settings { kept.old.settings ≡ Some settings }
+    ensures answered { IsTextAnswered settings kept.new (K.holds sink.old) (K.holds sink.new) (K.faults sink.old) (K.faults sink.new) result }
     ensures text { kept.new.text ≡ kept.old.text }
+    ensures settings { kept.new.settings ≡ kept.old.settings }
 {
-    let Ok(mut numbering) = Numbering::with_room(alloc, LIMITS.nodes) else {
+    let Ok(mut numbering) = Numbering::with_room(alloc, settings.nodes) else {
         return give_line(sink, Status::Memory);
     };
     let Finished {
@@ -84,7 +133,16 @@ fn answer_run<K: Sink>(
         end,
     } = finished;
     let entries = journal.as_slice().len() as u32;
-    let written = output::write_run(&program, &graph, end, entries, &mut numbering, sink);
+    let written = write_run(
+        &program,
+        &graph,
+        end,
+        entries,
+        settings.trace,
+        journal.as_slice(),
+        &mut numbering,
+        sink,
+    );
     kept.program = Some(program);
     kept.journal = journal;
     kept.end = Some(end);
@@ -94,21 +152,93 @@ fn answer_run<K: Sink>(
     }
 }
 
-// Answers to a text that was read to its end.
-fn answer_text<K: Sink>(alloc: Global, sink: &mut K, kept: &mut Kept) -> Status
-    requires { HasNoProgram kept.old }
-    ensures answered { IsTextAnswered kept.new (K.holds sink.old) (K.holds sink.new) (K.faults sink.old) (K.faults sink.new) result }
+// Runs a program and answers by what comes of it.
+fn answer_program<K: Sink>(
+    alloc: Global,
+    settings: Settings,
+    sink: &mut K,
+    program: Program,
+    kept: &mut Kept,
+) -> Status
+    requires limits { IsWithinLimits settings }
+    requires means { IsNamed kept.old.text.items }
+    requires valid { IsValid program }
+    requires none { HasNothing kept.old }
+    requires settings { kept.old.settings ≡ Some settings }
+    ensures answered { IsTextAnswered settings kept.new (K.holds sink.old) (K.holds sink.new) (K.faults sink.old) (K.faults sink.new) result }
     ensures text { kept.new.text ≡ kept.old.text }
+    ensures settings { kept.new.settings ≡ kept.old.settings }
 {
-    let program = match parse_first(alloc, kept.text.as_slice()) {
-        Ok(program) => program,
-        Err(FirstFault::NotBuilt) => return give_line(sink, Status::NotBuilt),
-        Err(FirstFault::Memory) => return give_line(sink, Status::Memory),
-    };
-    match run(alloc, &program, LIMITS) {
-        Ok(Outcome::Small { needed }) => answer_small(alloc, sink, program, needed, kept),
-        Ok(Outcome::Ran(finished)) => answer_run(alloc, sink, program, finished, kept),
+    if settings.check {
+        kept.program = Some(program);
+        return give_line(sink, Status::Checked);
+    }
+    match run(alloc, &program, limits_of(settings)) {
+        Ok(Outcome::Small { needed }) => answer_small(alloc, settings, sink, program, needed, kept),
+        Ok(Outcome::Ran(finished)) => answer_run(alloc, settings, sink, program, finished, kept),
         Err(AllocError) => give_line(sink, Status::Memory),
+    }
+}
+
+// Answers to a text whose names have no fault.
+fn answer_named<K: Sink>(alloc: Global, settings: Settings, sink: &mut K, kept: &mut Kept) -> Status
+    requires limits { IsWithinLimits settings }
+    requires means { IsNamed kept.old.text.items }
+    requires none { HasNothing kept.old }
+    requires settings { kept.old.settings ≡ Some settings }
+    ensures answered { IsTextAnswered settings kept.new (K.holds sink.old) (K.holds sink.new) (K.faults sink.old) (K.faults sink.new) result }
+    ensures text { kept.new.text ≡ kept.old.text }
+    ensures settings { kept.new.settings ≡ kept.old.settings }
+{
+    match parse_first(alloc, kept.text.as_slice()) {
+        Ok(program) => answer_program(alloc, settings, sink, program, kept),
+        Err(FirstFault::NotBuilt) => give_line(sink, Status::NotBuilt),
+        Err(FirstFault::Memory) => give_line(sink, Status::Memory),
+    }
+}
+
+// Answers to a text that is there whole.
+fn answer_text<K: Sink>(alloc: Global, settings: Settings, sink: &mut K, kept: &mut Kept) -> Status
+    requires limits { IsWithinLimits settings }
+    requires short { length kept.old.text.items ≤ longest }
+    requires none { HasNothing kept.old }
+    requires settings { kept.old.settings ≡ Some settings }
+    ensures answered { IsTextAnswered settings kept.new (K.holds sink.old) (K.holds sink.new) (K.faults sink.old) (K.faults sink.new) result }
+    ensures text { kept.new.text ≡ kept.old.text }
+    ensures settings { kept.new.settings ≡ kept.old.settings }
+{
+    match names(alloc, kept.text.as_slice()) {
+        Ok(()) => answer_named(alloc, settings, sink, kept),
+        Err(TextFault::Refused(refusal)) => answer_refused(alloc, settings, sink, refusal, kept),
+        Err(TextFault::Memory) => give_line(sink, Status::Memory),
+    }
+}
+
+// Takes the text that the settings ask for, and answers to it.
+fn answer_settings<S: Source, K: Sink>(
+    alloc: Global,
+    settings: Settings,
+    source: &mut S,
+    sink: &mut K,
+    kept: &mut Kept,
+) -> Status
+    requires limits { IsWithinLimits settings }
+    requires empty { IsEmpty kept.old }
+    ensures { (words : List (List ℕ)) → settings_of words ≡ Ok settings → IsAnswered (record {
+      words = words;
+      left = S.left source.old;
+      left_after = S.left source.new;
+      faults = S.faults source.old;
+      faults_after = S.faults source.new;
+      kept = kept.new;
+    }) (K.holds sink.old) (K.holds sink.new) (K.faults sink.old) (K.faults sink.new) result }
+{
+    kept.settings = Some(settings);
+    match take_text(alloc, settings, source, &mut kept.text) {
+        Input::Failed => give_line(sink, Status::ReadFault),
+        Input::TooLong => give_line(sink, Status::TooLong),
+        Input::Short => give_line(sink, Status::Memory),
+        Input::Whole => answer_text(alloc, settings, sink, kept),
     }
 }
 
@@ -122,7 +252,7 @@ fn answer<S: Source, K: Sink>(
 ) -> Status
     requires { IsEmpty kept.old }
     ensures { IsAnswered (record {
-      words = length words.now;
+      words = map string_bytes words.now;
       left = S.left source.old;
       left_after = S.left source.new;
       faults = S.faults source.old;
@@ -130,19 +260,17 @@ fn answer<S: Source, K: Sink>(
       kept = kept.new;
     }) (K.holds sink.old) (K.holds sink.new) (K.faults sink.old) (K.faults sink.new) result }
 {
-    if words.len() > 1 {
-        return give_line(sink, Status::Usage);
-    }
-    match read_all(source, &mut kept.text) {
-        Input::Failed => give_line(sink, Status::ReadFault),
-        Input::TooLong => give_line(sink, Status::TooLong),
-        Input::Short => give_line(sink, Status::Memory),
-        Input::Whole => answer_text(alloc, sink, kept),
+    match read_settings(alloc, words) {
+        Ok(settings) => answer_settings(alloc, settings, source, sink, kept),
+        Err(UsageFault::Words) => give_line(sink, Status::Usage),
+        Err(UsageFault::Number) => give_line(sink, Status::Usage),
+        Err(UsageFault::Memory) => give_line(sink, Status::Memory),
     }
 }
 
-/// Reads a text from the source, runs the program that it is, and writes the answer to the sink.
-/// `words` are those of the command line, the program's name among them.
+/// Reads a text, compiles it, runs the program that it means, and writes the answer to the sink.
+/// `words` are those of the command line, the program's name among them: they say how the text is
+/// run, and may ask for the sample text in place of the source.
 pub fn dactl<S: Source, K: Sink>(
     alloc: Global,
     words: &[String],
@@ -152,7 +280,7 @@ pub fn dactl<S: Source, K: Sink>(
 ) -> Status
     requires { IsEmpty kept.old }
     ensures answered { IsAnswered (record {
-      words = length words.now;
+      words = map string_bytes words.now;
       left = S.left source.old;
       left_after = S.left source.new;
       faults = S.faults source.old;
@@ -161,15 +289,11 @@ pub fn dactl<S: Source, K: Sink>(
     }) (K.holds sink.old) (K.holds sink.new) (K.faults sink.old) (K.faults sink.new) result }
 
     // What follows from it, answer by answer.
-    ensures usage { result ≡ Status.Usage → 1 < length words.now }
-    ensures only_usage { 1 < length words.now → (result ≡ Status.Usage) ⊎ (result ≡ Status.WriteFault) }
+    ensures usage { result ≡ Status.Usage → IsErr (settings_of (map string_bytes words.now)) }
+    ensures only_usage { IsErr (settings_of (map string_bytes words.now)) → (result ≡ Status.Usage) ⊎ ((result ≡ Status.WriteFault) ⊎ (result ≡ Status.Memory)) }
     ensures read_fault { result ≡ Status.ReadFault → Rose (S.faults source.old) (S.faults source.new) }
     ensures write_fault { result ≡ Status.WriteFault → Rose (K.faults sink.old) (K.faults sink.new) }
     ensures too_long { result ≡ Status.TooLong → longest < length kept.new.text.items }
-    ensures normal { result ≡ Status.Normal → HasRun kept.new End.Normal }
-    ensures budget { result ≡ Status.Budget → HasRun kept.new End.Budget }
-    ensures full { result ≡ Status.Full → HasFullRun kept.new }
-    ensures small { result ≡ Status.Small → HasSmall kept.new }
 {
     answer(alloc, words, source, sink, kept)
 }

@@ -1,9 +1,13 @@
-//! Reading a source to its end.
+//! The text of a call: what the source gives to its end, or the sample text.
 
 ghost use Rattle.std.specs.Prelude.{◌≡◌, ◌≤◌, []};
-ghost use Rattle.dactl_top.specs.Input.{HasRead};
+ghost use Rattle.dactl_settings.specs.Limits.{IsWithinLimits};
+ghost use Rattle.dactl_top.specs.Input.{HasRead, HasTaken};
 
 use dactl_base::source::Source;
+use dactl_sample::sample_text;
+use dactl_settings::Settings;
+use std::alloc::Global;
 
 /// How many bytes a text may have.
 pub const LONGEST: usize = 1_048_576;
@@ -44,4 +48,27 @@ pub fn read_all<S: Source>(source: &mut S, text: &mut Vec<u8>) -> Input
         }
     }
     Input::TooLong
+}
+
+/// Takes the text that the settings ask for onto an empty `text`.
+pub fn take_text<S: Source>(
+    alloc: Global,
+    settings: Settings,
+    source: &mut S,
+    text: &mut Vec<u8>,
+) -> Input
+    requires limits { IsWithinLimits settings }
+    requires empty { text.old.items ≡ [] }
+    ensures { HasTaken settings.sample (S.left source.old) (S.left source.new) (S.faults source.old) (S.faults source.new) text.new.items result }
+{
+    let Some(count) = settings.sample else {
+        return read_all(source, text);
+    };
+    match sample_text(alloc, count) {
+        Ok(sample) => {
+            *text = sample;
+            Input::Whole
+        }
+        Err(_) => Input::Short,
+    }
 }

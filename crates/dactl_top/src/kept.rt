@@ -3,16 +3,22 @@
 ghost use Rattle.std.specs.Prelude.{◌≡◌, [], None};
 ghost use Rattle.dactl_top.specs.Calls.{IsEmpty};
 
+use dactl_base::refusal::Refusal;
 use dactl_model::graph::{End, Entry};
 use dactl_model::program::Program;
+use dactl_settings::Settings;
 use std::alloc::Global;
 
 /// What a call read, made and did. It is empty before the call.
 #[derive(Drop)]
 pub struct Kept {
-    /// The bytes that were read.
+    /// What the words ask for, where they are settings.
+    pub settings: Option<Settings>,
+    /// The bytes that were read, or the sample text.
     pub text: Vec<u8>,
-    /// What the text says, where it is a program.
+    /// Why the text is refused, where it is.
+    pub refusal: Option<Refusal>,
+    /// What the text means, where it is a program.
     pub program: Option<Program>,
     /// The entries of the run, in their order.
     pub journal: Vec<Entry>,
@@ -26,7 +32,9 @@ impl Kept {
         ensures { IsEmpty result }
     {
         Kept {
+            settings: None,
             text: Vec::new(alloc),
+            refusal: None,
             program: None,
             journal: Vec::new(alloc),
             end: None,

@@ -3,8 +3,10 @@
 
 mod answer;
 pub mod call;
+mod compile;
 mod input;
 pub mod kept;
+mod lines;
 mod output;
 pub mod run;
 mod scan;

@@ -8,10 +8,14 @@ ghost use Rattle.dactl_top.specs.Lines.{code_of};
 pub enum Status {
     /// No node is active any more.
     Normal,
+    /// The text is a program; it was not to be run.
+    Checked,
     /// The journal has as many entries as the budget, and a node is active.
     Budget,
     /// The words are not the program's.
     Usage,
+    /// The text is no program.
+    Refused,
     /// An allowed rule does not fit what is left of the room.
     Full,
     /// The source failed.
@@ -24,7 +28,8 @@ pub enum Status {
     TooLong,
     /// The first graph does not fit the room.
     Small,
-    /// The text goes beyond what is built, or is no program. It goes when the whole language stands.
+    /// The names of the text have no fault, and it goes beyond what is built. It goes when the whole
+    /// language stands.
     NotBuilt,
 }
 
@@ -35,8 +40,10 @@ impl Status {
     {
         match self {
             Status::Normal => 0,
+            Status::Checked => 0,
             Status::Budget => 1,
             Status::Usage => 2,
+            Status::Refused => 3,
             Status::Full => 4,
             Status::ReadFault => 5,
             Status::WriteFault => 6,

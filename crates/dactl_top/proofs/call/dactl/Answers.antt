@@ -1,4 +1,4 @@
-use Rattle.dactl_top.specs.declared.status.Status.TheVariants.{Normal, Budget, Usage, Full, ReadFault, TooLong, Small}
+use Rattle.dactl_top.specs.declared.status.Status.TheVariants.{Usage, ReadFault, TooLong}
 use Rattle.dactl_top.proofs.Causes.{cause_of, fault_of, only_usage}
 use Rattle.dactl_top.proofs.call.dactl.Goals as goal
 
@@ -12,8 +12,4 @@ returns g c =
       read_fault = λ is. (cause_of _ _ _ _ _ _ ReadFault whole (λ e. cc) is).text.rose;
       write_fault = fault_of _ _ _ _ _ _ whole;
       too_long = λ is. (cause_of _ _ _ _ _ _ TooLong whole (λ e. cc) is).text.above;
-      normal = λ is. (cause_of _ _ _ _ _ _ Normal whole (λ e. cc) is).kept;
-      budget = λ is. (cause_of _ _ _ _ _ _ Budget whole (λ e. cc) is).kept;
-      full = λ is. (cause_of _ _ _ _ _ _ Full whole (λ e. cc) is).kept;
-      small = λ is. (cause_of _ _ _ _ _ _ Small whole (λ e. cc) is).kept;
     }
