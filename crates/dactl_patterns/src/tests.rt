@@ -155,7 +155,8 @@ fn a_pattern_that_doubles_forty_times_is_refused_at_once(rt: HostRuntime) -> Res
         text.extend_from_slice(line.as_bytes())?;
     }
     text.extend_from_slice(b"INITIAL => A; ENDMODULE M;")?;
-    // P5 is the first of more than 64 nodes, and its name stands behind four lines of 23 bytes.
+    // The sixth of them is the first of more than 64 nodes, and its name stands behind four lines of
+    // 23 bytes.
     assert!(&rt; refusal(rt.alloc(), text.as_slice()) == at(Kind::TooWide, 51 + 4 * 23 + 8));
     Ok(())
 }
