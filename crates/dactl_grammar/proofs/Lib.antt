@@ -7,3 +7,4 @@ pub mod Bounded
 pub mod Answered
 pub mod Exclusive
 pub mod Clauses
+pub mod Holds

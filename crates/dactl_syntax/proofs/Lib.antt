@@ -10,3 +10,16 @@ pub mod TermGrowth
 pub mod TextGrowth
 pub mod Answered
 pub mod Written
+pub mod Numbers
+pub mod TokenFacts
+pub mod Holding
+pub mod Spelled
+pub mod InOrder
+pub mod Words
+pub mod Back
+pub mod Signs
+pub mod Wider
+pub mod BackTerms
+pub mod BackPatterns
+pub mod BackRules
+pub mod BackItems

@@ -1,5 +1,5 @@
 -- Texts of lists, one part more.
-use Rattle.std.proofs.Common.{◌≡◌, ℕ, zero, suc, ◌+◌, ◌<◌, List, [], ◌∷◌, ◌++◌, length, map, take, get_or, refl, sym, ap, ◌∙◌, append_assoc, arith}
+use Rattle.std.proofs.Common.{◌≡◌, ℕ, zero, suc, ◌+◌, ◌<◌, true, false, List, [], ◌∷◌, ◌++◌, length, map, take, get_or, refl, sym, ap, ◌∙◌, append_assoc, arith}
 use Rattle.std.specs.Prelude.{codes}
 use Rattle.std.specs.List.{concat}
 use Rattle.std.proofs.lemmas.List.{append-nil}
@@ -11,7 +11,7 @@ use Rattle.dactl_syntax.specs.declared.tree.PatternTree.TheVariants as p
 use Rattle.dactl_syntax.specs.declared.tree.PatternTree.TheOpen.{PatternTree-F}
 use Rattle.dactl_syntax.specs.declared.tree.PatternTree.TheFolds.{fold-roll-PatternTree}
 use Rattle.dactl_syntax.specs.declared.write_patterns.Standing.TheVariants as standing
-use Rattle.dactl_syntax.specs.Canonical.{word, bracketed, separated, before_text, Piece, stand, pattern_level, piece_of, pattern_text, link_text, tail_text}
+use Rattle.dactl_syntax.specs.Canonical.{word, bracketed, separated, before_text, Piece, stand, plain, pattern_level, piece_of, pattern_text, link_text, tail_text}
 
 -- the part at a place joins those before it
 pub concat_more : {A : Type 0} (f : A → List ℕ) (xs : List A) (i : ℕ) (d : A) → i < length xs → concat (map f (take (i + 1) xs)) ≡ concat (map f (take i xs)) ++ f (get_or xs i d)
@@ -46,13 +46,21 @@ stands : (args : List PatternTree) → map (stand standing.Inner) (map piece_of 
 stands [] = refl
 stands (q ∷ args) = ap (λ (k : List (List ℕ)). pattern_text standing.Inner q ∷ k) (stands args)
 
+pub whole_chain : (first : PatternTree) (rest : List (Sign × PatternTree)) → piece_of (p.Chain first rest) ≡ record { bytes = pattern_text standing.Inner first ++ concat (map tail_text rest); is_chain = true; is_named = false }
+whole_chain first rest =
+    ap piece_of (sym (rolls-Chain first rest)) ∙ fold-roll-PatternTree Piece pattern_level (PatternTree-F.Chain first rest)
+    ∙ ap (λ (k : List (List ℕ)). record { bytes = pattern_text standing.Inner first ++ concat k; is_chain = true; is_named = false }) (tails rest)
+
+pub whole_sym : (name : Name) (args : List PatternTree) → piece_of (p.Sym name args) ≡ plain (word name.text ++ bracketed (map (pattern_text standing.Inner) args))
+whole_sym name args =
+    ap piece_of (sym (rolls-Sym name args)) ∙ fold-roll-PatternTree Piece pattern_level (PatternTree-F.Sym name args)
+    ∙ ap (λ (k : List (List ℕ)). plain (word name.text ++ bracketed k)) (stands args)
+
 pub piece_chain : (first : PatternTree) (rest : List (Sign × PatternTree)) → (piece_of (p.Chain first rest)).bytes ≡ pattern_text standing.Inner first ++ concat (map tail_text rest)
-piece_chain first rest = let e = ap piece_of (sym (rolls-Chain first rest)) ∙ fold-roll-PatternTree Piece pattern_level (PatternTree-F.Chain first rest) in
-    ap (λ (k : Piece). k.bytes) e ∙ ap (λ (k : List (List ℕ)). pattern_text standing.Inner first ++ concat k) (tails rest)
+piece_chain first rest = ap (λ (k : Piece). k.bytes) (whole_chain first rest)
 
 pub piece_sym : (name : Name) (args : List PatternTree) → (piece_of (p.Sym name args)).bytes ≡ word name.text ++ bracketed (map (pattern_text standing.Inner) args)
-piece_sym name args = let e = ap piece_of (sym (rolls-Sym name args)) ∙ fold-roll-PatternTree Piece pattern_level (PatternTree-F.Sym name args) in
-    ap (λ (k : Piece). k.bytes) e ∙ ap (λ (k : List (List ℕ)). word name.text ++ bracketed k) (stands args)
+piece_sym name args = ap (λ (k : Piece). k.bytes) (whole_sym name args)
 
 -- ---- parts with a token between each two
 

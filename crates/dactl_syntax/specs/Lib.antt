@@ -14,3 +14,6 @@ pub mod Expansion
 pub mod Contractum
 pub mod RuleFaults
 pub mod Meaning
+pub mod Spelling
+pub mod Order
+pub mod Unplaced

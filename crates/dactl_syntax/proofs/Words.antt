@@ -1,0 +1,161 @@
+-- Words with a blank behind each are read as the tokens that they are.
+use Rattle.std.proofs.Common.{◌≡◌, ℕ, zero, suc, ◌+◌, ◌<◌, Bool, true, false, cond, ◌⊎◌, inl, inr, List, [], ◌∷◌, ◌++◌, length, take, Option, Some, None, refl, sym, ap, ◌∙◌, append_assoc, arith, length-append}
+use Rattle.std.specs.Prelude.{◌&&◌, ◌==◌}
+use Rattle.std.specs.List.{AllByRecursion as Each}
+use Rattle.dactl_tokens.specs.declared.token.Token.{Token}
+use Rattle.dactl_tokens.specs.declared.token.TokenKind.{TokenKind}
+use Rattle.dactl_tokens.specs.declared.token.TokenKind.TheVariants as kinds
+use Rattle.dactl_tokens.specs.Spelling.{is_upper, is_lower, is_digit, is_word, is_blank, all, sign_kind, is_long_sign, kind_of, is_wide}
+use Rattle.dactl_tokens.specs.Lexes.{IsGap, none, blank, IsLongest, Scans, Lexes}
+use Rattle.dactl_tokens.proofs.OneReading.{kind_nil}
+use Rattle.dactl_syntax.specs.Productions.{Tok}
+use Rattle.dactl_syntax.specs.Seen.{between, sort_of, value_at, token_seen, tokens_seen}
+use Rattle.dactl_syntax.proofs.TokenFacts.{between_is}
+
+-- a word, what kind of token it is, and the blank behind it
+pub record Word : Type 0 where
+  pub kind : TokenKind
+  pub bytes : List ℕ
+  pub blank : ℕ
+
+-- a space or LF
+abbrev pub IsSpace : ℕ → Type 0
+IsSpace b = (b ≡ 32) ⊎ (b ≡ 10)
+
+pub record IsFine (w : Word) : Type 0 where
+  pub kind : kind_of w.bytes ≡ Some w.kind
+  pub fits : w.kind ≡ kinds.Integer → is_wide w.bytes ≡ false
+  pub space : IsSpace w.blank
+
+-- the bytes of words
+abbrev pub text_of : List Word → List ℕ
+text_of [] = []
+text_of (w ∷ ws) = (w.bytes ++ w.blank ∷ []) ++ text_of ws
+
+-- the place behind a word and its blank, and behind words
+abbrev pub next : ℕ → Word → ℕ
+next place w = place + length w.bytes + 1
+
+abbrev pub after : ℕ → List Word → ℕ
+after place [] = place
+after place (w ∷ ws) = after (next place w) ws
+
+-- the tokens of words from a place on, as the grammar sees them
+abbrev pub tok_at : ℕ → Word → Tok
+tok_at place w = record { sort = sort_of w.kind w.bytes; value = value_at w.bytes; word = w.bytes; place = place }
+
+abbrev pub toks_at : ℕ → List Word → List Tok
+toks_at place [] = []
+toks_at place (w ∷ ws) = tok_at place w ∷ toks_at (next place w) ws
+
+abbrev token_at : ℕ → Word → Token
+token_at place w = record { kind = w.kind; from = place; to = place + length w.bytes }
+
+abbrev pub tokens_at : ℕ → List Word → List Token
+tokens_at place [] = []
+tokens_at place (w ∷ ws) = token_at place w ∷ tokens_at (next place w) ws
+
+-- ---- rows of words
+
+pub text_row : (xs ys : List Word) → text_of (xs ++ ys) ≡ text_of xs ++ text_of ys
+text_row [] ys = refl
+text_row (w ∷ xs) ys = ap (λ (z : List ℕ). (w.bytes ++ w.blank ∷ []) ++ z) (text_row xs ys) ∙ sym (append_assoc (w.bytes ++ w.blank ∷ []) (text_of xs) (text_of ys))
+
+pub toks_row : (place : ℕ) (xs ys : List Word) → toks_at place (xs ++ ys) ≡ toks_at place xs ++ toks_at (after place xs) ys
+toks_row place [] ys = refl
+toks_row place (w ∷ xs) ys = ap (λ (z : List Tok). tok_at place w ∷ z) (toks_row (next place w) xs ys)
+
+-- ---- no token goes over a space
+
+space_fails : (p : ℕ → Bool) → p 32 ≡ false → p 10 ≡ false → (b : ℕ) → IsSpace b → p b ≡ false
+space_fails p s l b (inl e) = ap p e ∙ s
+space_fails p s l b (inr e) = ap p e ∙ l
+
+and_false : (a : Bool) → (a && false) ≡ false
+and_false true = refl
+and_false false = refl
+
+-- what fails at the space fails over it
+fails_over : (p : ℕ → Bool) (bs more : List ℕ) (b k : ℕ) → p b ≡ false → length bs < k → all p (take k (bs ++ b ∷ more)) ≡ false
+fails_over p [] more b zero h lt = absurd (omega arith)
+fails_over p [] more b (suc k) h lt = rw h refl
+fails_over p (c ∷ bs) more b zero h lt = absurd (omega arith)
+fails_over p (c ∷ bs) more b (suc k) h lt = rw (fails_over p bs more b k h (omega arith)) (and_false (p c))
+
+-- tests that no front over the space passes
+record Fails (rest : List ℕ) : Type 0 where
+  pub word : all is_word rest ≡ false
+  pub digit : all is_digit rest ≡ false
+  pub equals : all (λ c. c == 61) rest ≡ false
+  pub more : all (λ c. c == 62) rest ≡ false
+
+fails : (bs more : List ℕ) (b k : ℕ) → IsSpace b → length bs < k → Fails (take k (bs ++ b ∷ more))
+fails bs more b k space lt = record {
+  word = fails_over is_word bs more b k (space_fails is_word refl refl b space) lt;
+  digit = fails_over is_digit bs more b k (space_fails is_digit refl refl b space) lt;
+  equals = fails_over (λ c. c == 61) bs more b k (space_fails (λ c. c == 61) refl refl b space) lt;
+  more = fails_over (λ c. c == 62) bs more b k (space_fails (λ c. c == 62) refl refl b space) lt;
+}
+
+alone : (a : Bool) → (a && true) ≡ false → a ≡ false
+alone true h = cc
+alone false h = refl
+
+no_sign : (b : ℕ) (rest : List ℕ) → Fails rest → sign_kind (b ∷ rest) ≡ None
+unfolding is_long_sign
+no_sign b [] f = let h = f.word in absurd cc
+no_sign b (c ∷ []) f = rw (alone (c == 61) f.equals, alone (c == 62) f.more, alone (is_digit c) f.digit, and_false (b == 58), and_false (b == 61), and_false (b == 45)) refl
+no_sign b (c ∷ d ∷ rest) f = rw (f.digit, and_false (b == 45)) refl
+
+cond_same : (b : Bool) (x : Option TokenKind) → cond b x x ≡ x
+cond_same true x = refl
+cond_same false x = refl
+
+no_kind : (b : ℕ) (rest : List ℕ) → Fails rest → kind_of (b ∷ rest) ≡ None
+unfolding kind_of
+no_kind b rest f = rw (f.word, f.digit, no_sign b rest f, cond_same (is_digit b) None, cond_same (is_lower b) None, cond_same (is_upper b) None) refl
+
+longest : (bytes more : List ℕ) (b : ℕ) (k : TokenKind) → kind_of bytes ≡ Some k → IsSpace b → IsLongest (length bytes) (bytes ++ b ∷ more)
+longest [] more b kind e space k lt le = absurd (kind_nil kind e)
+longest (c ∷ bytes) more b kind e space zero lt le = absurd (omega arith)
+longest (c ∷ bytes) more b kind e space (suc k) lt le = no_kind c (take k (bytes ++ b ∷ more)) (fails bytes more b k space (omega arith))
+
+-- ---- the tokens are read
+
+space_gap : (b : ℕ) → IsSpace b → IsGap (b ∷ [])
+space_gap b h = blank b [] (is_space b h) none
+  where
+    is_space : (b : ℕ) → IsSpace b → is_blank b ≡ true
+    is_space b (inl e) = ap is_blank e
+    is_space b (inr e) = ap is_blank e
+
+scans_words : (ws : List Word) (place : ℕ) (gap : List ℕ) → IsGap gap → Each IsFine ws → (end : ℕ) × Scans place (gap ++ text_of ws) (tokens_at (place + length gap) ws) end []
+scans_words [] place gap g h = (place + length gap, record { gap = gap; parts = refl; is_gap = g; at = refl })
+scans_words (w ∷ ws) place gap g h =
+    let start = place + length gap in
+    let later = scans_words ws (start + length w.bytes) (w.blank ∷ []) (space_gap w.blank h.0.space) h.1 in (
+      later.0,
+      record {
+        gap = gap;
+        word = w.bytes;
+        more = w.blank ∷ text_of ws;
+        parts = ap (λ (z : List ℕ). gap ++ z) (append_assoc w.bytes (w.blank ∷ []) (text_of ws));
+        is_gap = g;
+        is_token = record { kind = h.0.kind; longest = longest w.bytes (text_of ws) w.blank w.kind h.0.kind h.0.space; fits = h.0.fits; from = refl; to = refl };
+        next = later.1;
+      },
+    )
+
+pub words_lex : (ws : List Word) → Each IsFine ws → Lexes (text_of ws) (tokens_at 0 ws)
+words_lex ws h = scans_words ws 0 [] none h
+
+pub words_seen : (text pre : List ℕ) (place : ℕ) (ws : List Word) → text ≡ pre ++ text_of ws → place ≡ length pre → tokens_seen text (tokens_at place ws) ≡ toks_at place ws
+words_seen text pre place [] e f = refl
+words_seen text pre place (w ∷ ws) e f =
+    let parts : text ≡ pre ++ (w.bytes ++ (w.blank ∷ text_of ws)) = e ∙ ap (λ (z : List ℕ). pre ++ z) (append_assoc w.bytes (w.blank ∷ []) (text_of ws)) in
+    let bytes : between text place (place + length w.bytes) ≡ w.bytes = between_is text pre w.bytes (w.blank ∷ text_of ws) place (place + length w.bytes) parts f refl in
+    let first : token_seen text (token_at place w) ≡ tok_at place w = ap (λ (z : List ℕ). record { sort = sort_of w.kind z; value = value_at z; word = z; place = place }) bytes in
+    let word : List ℕ = w.bytes ++ w.blank ∷ [] in
+    let later : tokens_seen text (tokens_at (next place w) ws) ≡ toks_at (next place w) ws =
+    words_seen text (pre ++ word) (next place w) ws (e ∙ sym (append_assoc pre word (text_of ws))) (omega (arith, length-append pre word, length-append w.bytes (w.blank ∷ []))) in
+    ap (λ (t : Tok). t ∷ tokens_seen text (tokens_at (next place w) ws)) first ∙ ap (λ (l : List Tok). tok_at place w ∷ l) later
