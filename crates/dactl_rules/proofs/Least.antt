@@ -18,7 +18,7 @@ precedes_not r (inr h) = stands_not r h.1
 pub one_of : (x : Refusal) (r : Refusal) → Contains (x ∷ []) r → r ≡ x
 one_of x r (k, lt, is) = let e : k ≡ 0 = omega arith in sym is ∙ ap (λ (n : ℕ). get_or (x ∷ []) n r) e
 
-one_is : (x : Refusal) → Contains (x ∷ []) x
+pub one_is : (x : Refusal) → Contains (x ∷ []) x
 one_is x = let lt : 0 < length (x ∷ []) = omega arith in (0, lt, refl)
 
 one_told : (x : Refusal) → TellsLeast (Contains (x ∷ [])) (Some x)

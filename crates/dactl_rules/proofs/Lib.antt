@@ -20,3 +20,8 @@ pub mod ValidMoves
 pub mod ValidUses
 pub mod ValidRules
 pub mod ValidPrograms
+pub mod Late
+pub mod WholeRules
+pub mod Listings
+pub mod Rulings
+pub mod WholePrograms

@@ -166,7 +166,7 @@ drawn_lengths k (t ∷ terms) = ap (λ (n : ℕ). suc n) (drawn_lengths (k + len
 
 -- ---- wakes
 
-wake_one : (b : Bool) (n : ℕ) (m : contractum.MentionTree) (ms : List contractum.MentionTree) (variables : List (List ℕ)) (rest : List ℕ) → rest ≡ map (λ m. number_in variables m.name.text) (filter (λ m. has_star m.marks && is_among variables m.name.text) ms)
+pub wake_one : (b : Bool) (n : ℕ) (m : contractum.MentionTree) (ms : List contractum.MentionTree) (variables : List (List ℕ)) (rest : List ℕ) → rest ≡ map (λ m. number_in variables m.name.text) (filter (λ m. has_star m.marks && is_among variables m.name.text) ms)
     → n ≡ number_in variables m.name.text → cond b (n ∷ rest) rest ≡ map (λ (x : contractum.MentionTree). number_in variables x.name.text) (cond b (m ∷ filter (λ m. has_star m.marks && is_among variables m.name.text) ms) (filter (λ m. has_star m.marks && is_among variables m.name.text) ms))
 wake_one true n m ms variables rest e f = ap (λ (z : ℕ). z ∷ rest) f ∙ ap (λ (z : List ℕ). number_in variables m.name.text ∷ z) e
 wake_one false n m ms variables rest e f = e

@@ -21,7 +21,8 @@ use Rattle.dactl_syntax.specs.Uses.{Use, term_uses}
 use Rattle.dactl_syntax.specs.Expansion.{is_among, number_in}
 use Rattle.dactl_syntax.specs.Contractum.{Target, Made, Named, Core, Number, Of, Sketch, Drawn, terms_draw, made_by, MentionTree, mentions_of, name_list, given_names, has_name, number_given, name_denotes, denotes, mark_of, symbol_label, label_of, fresh_of, fresh_nodes, has_star, wakes_of}
 use Rattle.dactl_syntax.specs.RuleFaults.{place_of, at_if, core_names, wide_in_contractum, is_pattern, not_creatable, bound_names, unbound_mentions, too_many_waits_at, too_many_waits, named_twice_in_contractum, marks_on_bound, each_at, contractum_faults}
-use Rattle.dactl_rules.specs.Spelling.{is_counted, is_whole, AreCountable}
+use Rattle.dactl_syntax.specs.Spelling.{is_counted, is_whole}
+use Rattle.dactl_rules.specs.Counting.{AreCountable}
 use Rattle.dactl_rules.proofs.ValidLists.{In, in_left, in_right, in_map, map_in, in_flat, flat_in, in_filter, filter_in, all_of}
 use Rattle.dactl_rules.proofs.ValidTests.{right_only, is_true, not_above, at_least}
 use Rattle.dactl_rules.proofs.ValidPatterns.{SeesBelow}

@@ -23,7 +23,8 @@ use Rattle.dactl_syntax.specs.Contractum.{Drawn, term_of_part, term_draws, terms
 use Rattle.dactl_syntax.specs.RuleFaults.{contractum_faults, rule_faults}
 use Rattle.dactl_syntax.specs.ScopeFaults.{ScopeFault}
 use Rattle.dactl_syntax.specs.Meaning.{rule_of, rules_from, arithmetic_rules, PlacedInitial, all_initials, node_number, root_of, start_by, program_of, named_faults, faults_of_rules, TreeFault}
-use Rattle.dactl_rules.specs.Spelling.{is_whole, contracta, AreCountable, IsSpelled, IsCountable}
+use Rattle.dactl_syntax.specs.Spelling.{is_whole, contracta, IsSpelled}
+use Rattle.dactl_rules.specs.Counting.{AreCountable, IsCountable}
 use Rattle.dactl_rules.specs.Validity.{IsValidWithoutFaults}
 use Rattle.dactl_rules.proofs.ValidLists.{In, Pairs, in_left, in_right, in_either, in_map, map_in, in_flat, in_place, in_get, all_in, all_pairs_of, pairs_append, pairs_of_all}
 use Rattle.dactl_rules.proofs.ValidPatterns.{named_plain}

@@ -18,7 +18,8 @@ use Rattle.dactl_syntax.specs.Expansion.{Occurrence, is_among, number_in, occurr
 use Rattle.dactl_syntax.specs.Contractum.{term_of_part, made_by, fresh_nodes, moves_of, wakes_of}
 use Rattle.dactl_syntax.specs.RuleFaults.{again, place_of, binders_in_choice, named_twice_in_pattern, wide_in_pattern, at_if, is_too_wide, lefts_of, variable_lefts, unbound_lefts, redirected_twice, not_overwritable, head_is, root_not_rewritable, is_class, each_at, contractum_faults, pattern_faults, left_faults, rule_faults}
 use Rattle.dactl_syntax.specs.Meaning.{head_symbol, rule_of}
-use Rattle.dactl_rules.specs.Spelling.{is_whole, AreCountable}
+use Rattle.dactl_syntax.specs.Spelling.{is_whole}
+use Rattle.dactl_rules.specs.Counting.{AreCountable}
 use Rattle.dactl_rules.proofs.ValidLists.{In, Pairs, in_left, in_map, map_in, filter_every}
 use Rattle.dactl_rules.proofs.ValidTests.{neither_right, is_true, not_above}
 use Rattle.dactl_rules.proofs.ValidPatterns.{SeesBelow, SeesSymbol, Plain, symbols_expanded, placed, told, bound}

@@ -8,5 +8,9 @@ pub mod Writing
 pub mod Lefts
 pub mod Reading
 pub mod Rules
-pub mod Spelling
+pub mod Counting
 pub mod Validity
+pub mod Listing
+pub mod Ruling
+pub mod Initials
+pub mod Drafts

@@ -11,6 +11,7 @@ use Rattle.dactl_rules.specs.Drawing.{made_in}
 use Rattle.dactl_rules.specs.Lefts.{words}
 use Rattle.dactl_rules.specs.Numbers.{found, node_number}
 use Rattle.dactl_rules.specs.Terms.{AreDrawn}
+use Rattle.dactl_rules.specs.Counting.{AreCounted}
 
 -- this is what the rule's tree says
 pub record IsRead (text : Text) (m : ℕ) (tree : RuleTree) (r : RuleParts) : Type 0 where
@@ -20,4 +21,5 @@ pub record IsRead (text : Text) (m : ℕ) (tree : RuleTree) (r : RuleParts) : Ty
   pub lefts : words r.lefts.items ≡ lefts_of tree.parts
   pub drawn : AreDrawn (map term_of_part tree.parts) r.contractum.drawing r.contractum.targets.items
   pub small : length r.contractum.drawing.made.items < 2 ^ 31
+  pub counts : AreCounted (made_in r.contractum.drawing)
   pub given : (w : List ℕ) → found r.contractum.given w ≡ node_number (made_in r.contractum.drawing) w

@@ -1,22 +1,27 @@
 -- The faults of a rule, by what is read of it.
-use Rattle.std.specs.Prelude.{◌≡◌, ℕ, ◌<◌, not, List, [], ◌++◌, map, All, Contains, Option, Some, if◌then◌else◌}
-use Rattle.std.specs.List.{filter, flat_map}
+use Rattle.std.specs.Prelude.{◌≡◌, ℕ, ◌<◌, not, List, [], ◌++◌, map, All, Contains, Option, Some, unwrap_or, length, if◌then◌else◌}
+use Rattle.std.specs.List.{filter, filter_map, flat_map}
 use Rattle.std.specs.Borrow.{Bor}
 use Rattle.dactl_base.specs.declared.refusal.Kind.TheVariants as kinds
 use Rattle.dactl_base.specs.declared.refusal.Refusal.{Refusal}
 use Rattle.dactl_base.specs.declared.refusal.TextFault.{TextFault}
 use Rattle.dactl_base.specs.declared.refusal.TextFault.TheVariants as fault
 use Rattle.dactl_model.specs.declared.program.Class.TheVariants as classes
+use Rattle.dactl_model.specs.declared.program.Pat.{Pat}
+use Rattle.dactl_model.specs.declared.program.Body.TheVariants.{Written}
+use Rattle.dactl_model.specs.declared.program.Rule.{Rule}
 use Rattle.dactl_syntax.specs.declared.tree.Name.{Name}
 use Rattle.dactl_syntax.specs.declared.tree.RuleTree.{RuleTree}
 use Rattle.dactl_syntax.specs.Expansion.{is_among}
+use Rattle.dactl_syntax.specs.Contractum.{fresh_of, moves_of}
 use Rattle.dactl_syntax.specs.RuleFaults.{each_at, again, place_of, head_is, is_class}
 use Rattle.dactl_symbols.specs.Least.{sooner, TellsLeast}
 use Rattle.dactl_symbols.specs.Sights.{Sights}
 use Rattle.dactl_symbols.specs.Scoping.{seen_in, class_in}
 use Rattle.dactl_rules.specs.declared.reading.RuleParts.{RuleParts}
 use Rattle.dactl_rules.specs.Drawing.{made_in, mentioned_in}
-use Rattle.dactl_rules.specs.Lefts.{words, left_unbound}
+use Rattle.dactl_rules.specs.Lefts.{words, left_unbound, left_fixed}
+use Rattle.dactl_rules.specs.Meant.{wake_of}
 use Rattle.dactl_rules.specs.Told.{fault_at, drawn_faults}
 
 -- the faults for which the expansion of the pattern is not needed, apart from those of the pattern
@@ -32,3 +37,19 @@ abbrev pub IsAnswerFor : List Refusal → List (Bor Name) → Refusal → TextFa
 IsAnswerFor faults lefts refusal fault.Memory = Unit {0}
 IsAnswerFor faults lefts refusal (fault.Refused r) =
     All (λ n. refusal.place.byte < place_of n.now) lefts × ((least : Option Refusal) × (TellsLeast (Contains faults) least × (Some r ≡ sooner least (Some refusal))))
+
+-- the left sides of variables whose nodes are not over-writable
+abbrev pub fixed_faults : Sights → ℕ → RuleParts → Pat → List Refusal
+fixed_faults s m r pattern = flat_map (left_fixed (λ f. is_class classes.Overwritable (class_in s m f)) r.variables r.roots pattern) (words r.lefts.items)
+
+-- what a rule without faults means, by what is read of it and the expansion of its pattern
+abbrev pub meant_of : Sights → ℕ → ℕ → RuleTree → RuleParts → Pat → Rule
+meant_of s m group tree r pattern =
+    let made = made_in r.contractum.drawing in
+    record {
+      symbol = unwrap_or r.head 0;
+      group = group;
+      variables = length r.variables;
+      pattern = pattern;
+      body = Written (map (fresh_of (seen_in s m) r.variables made) made) (moves_of r.variables tree.redirects tree.parts) (filter_map (wake_of r.variables) (mentioned_in r.contractum.drawing));
+    }

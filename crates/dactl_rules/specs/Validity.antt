@@ -3,7 +3,8 @@ use Rattle.dactl_model.specs.Programs.{IsValid}
 use Rattle.dactl_syntax.specs.declared.tree.Text.{Text}
 use Rattle.dactl_syntax.specs.Faults.{NoFault}
 use Rattle.dactl_syntax.specs.Meaning.{program_of, TreeFault}
-use Rattle.dactl_rules.specs.Spelling.{IsSpelled, IsCountable}
+use Rattle.dactl_syntax.specs.Spelling.{IsSpelled}
+use Rattle.dactl_rules.specs.Counting.{IsCountable}
 
 -- the program of a tree without faults is valid
 abbrev pub IsValidWithoutFaults : Type 0

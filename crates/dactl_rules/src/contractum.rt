@@ -1,5 +1,6 @@
 //! The terms of a contractum, drawn.
-ghost use Rattle.std.specs.Prelude.{◌≡◌, ℕ, ◌<◌, ◌^◌, IfOk, length, List, map};
+ghost use Rattle.std.specs.Prelude.{◌≡◌, ℕ, ◌<◌, ◌^◌, true, IfOk, length, List, map, Some};
+ghost use Rattle.dactl_rules.specs.Counting.{arcs_of, AreCounted};
 ghost use Rattle.dactl_rules.specs.Drawing.{made_in, sketch_of};
 ghost use Rattle.dactl_rules.specs.Numbers.{found, node_number};
 ghost use Rattle.dactl_rules.specs.Terms.{seen, AreDrawn};
@@ -32,10 +33,33 @@ fn given(alloc: Global, made: &[Sketch]) -> Result<Numbers, Memory>
     Ok(numbers)
 }
 
-/// Draws the terms of a contractum.
+/// How many arcs the new nodes have together, if that has a number.
+fn arc_count(made: &[Sketch]) -> Option<usize>
+    ensures { (n : ℕ) → result ≡ Some n → n ≡ arcs_of (map sketch_of made.now) }
+{
+    let mut count: usize = 0;
+    for sketch in made {
+        count = count.checked_add(sketch.arcs.len())?;
+    }
+    Some(count)
+}
+
+/// Whether the numbers of the arcs fit.
+fn has_few_arcs(made: &[Sketch]) -> bool
+    ensures { result ≡ true → arcs_of (map sketch_of made.now) < 2 ^ 31 }
+{
+    match arc_count(made) {
+        Some(count) => count <= MOST_NODES,
+        None => false,
+    }
+}
+
+/// Draws the terms of a contractum. More new nodes or arcs than have numbers of 31 bits are want of
+/// memory.
 pub fn draw<'a>(alloc: Global, terms: &[&'a TermTree]) -> Result<Contractum<'a>, Memory>
     ensures drawn { IfOk result (λ c. AreDrawn (seen terms.now) c.drawing c.targets.items) }
     ensures small { IfOk result (λ c. length c.drawing.made.items < 2 ^ 31) }
+    ensures counts { IfOk result (λ c. AreCounted (made_in c.drawing)) }
     ensures given { IfOk result (λ c. (w : List ℕ) → found c.given w ≡ node_number (made_in c.drawing) w) }
 {
     let mut drawing = Drawing {
@@ -46,7 +70,7 @@ pub fn draw<'a>(alloc: Global, terms: &[&'a TermTree]) -> Result<Contractum<'a>,
     for tree in terms {
         targets.push(term(alloc, &mut drawing, tree)?)?;
     }
-    if drawing.made.len() > MOST_NODES {
+    if drawing.made.len() > MOST_NODES || !has_few_arcs(drawing.made.as_slice()) {
         return Err(AllocError);
     }
     let given = given(alloc, drawing.made.as_slice())?;

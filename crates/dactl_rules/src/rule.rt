@@ -1,21 +1,29 @@
 //! A rule: its first fault, or what it means.
-ghost use Rattle.std.specs.Prelude.{◌≡◌, ℕ, List, IfOk};
+ghost use Rattle.std.specs.Prelude.{◌≡◌, ◌≤◌, ◌++◌, ℕ, List, Contains, IfOk, length, map};
+ghost use Rattle.std.specs.List.{flat_map};
 ghost use Rattle.dactl_model.specs.declared.program.Class.TheVariants as classes;
-ghost use Rattle.dactl_syntax.specs.RuleFaults.{head_is, is_class};
-ghost use Rattle.dactl_symbols.specs.Scoping.{class_in};
+ghost use Rattle.dactl_syntax.specs.Contractum.{term_of_part};
+ghost use Rattle.dactl_syntax.specs.Faults.{TellsFaults};
+ghost use Rattle.dactl_syntax.specs.Meaning.{rule_of};
+ghost use Rattle.dactl_syntax.specs.RuleFaults.{head_is, is_class, rule_faults};
+ghost use Rattle.dactl_symbols.specs.Scoping.{class_in, IsScopesOf};
+ghost use Rattle.dactl_rules.specs.Counting.{AreCountable};
+ghost use Rattle.dactl_rules.specs.Terms.{IsReady, AreDrawn};
 ghost use Rattle.dactl_rules.specs.Drawing.{made_in};
 ghost use Rattle.dactl_rules.specs.Numbers.{found, node_number};
-ghost use Rattle.dactl_rules.specs.Rules.{early_faults as faults_before, IsAnswerFor};
+ghost use Rattle.dactl_rules.specs.Rules.{early_faults as faults_before, fixed_faults, meant_of, IsAnswerFor};
 
 use crate::faults::{contractum_faults, fault_at, first};
-use crate::lefts::{redirected_twice, stand_behind, unbound};
+use crate::lefts::{not_overwritable, redirected_twice, stand_behind, unbound};
 use crate::overwriting::is_rewritable;
-use crate::reading::RuleParts;
+use crate::reading::{RuleParts, read};
 use crate::variables::Variables;
 use dactl_base::refusal::{Kind, Memory, Refusal, TextFault};
+use dactl_model::program::{Body, Pat, Rule};
+use dactl_patterns::pattern;
 use dactl_symbols::least::lesser;
 use dactl_symbols::sight::Scopes;
-use dactl_syntax::tree::{Name, RuleTree};
+use dactl_syntax::tree::{Name, RuleTree, Text};
 use sqlite_items::Items;
 use std::alloc::Global;
 
@@ -71,5 +79,108 @@ fn refused(faults: &[Refusal], lefts: &[&Name], refusal: Refusal) -> TextFault
     match lesser(first(faults), Some(refusal)) {
         Some(least) => TextFault::Refused(least),
         None => TextFault::Memory,
+    }
+}
+
+/// What a rule without faults means.
+fn meant(
+    alloc: Global,
+    scopes: &Scopes,
+    owner: usize,
+    group: u32,
+    tree: &RuleTree,
+    parts: &RuleParts,
+    pattern: Pat,
+) -> Result<Rule, Memory>
+    requires ready { IsReady parts.now.variables parts.now.contractum }
+    requires drawn { AreDrawn (map term_of_part tree.now.parts) parts.now.contractum.drawing parts.now.contractum.targets.items }
+    ensures { IfOk result (λ r. r ≡ meant_of scopes.now owner group tree.now parts.now pattern) }
+{
+    let contractum = &parts.contractum;
+    let variables = &parts.variables;
+    let fresh = contractum.fresh(alloc, scopes, owner, variables)?;
+    let moves = contractum.moves(alloc, variables, tree.redirects, tree.parts.as_slice())?;
+    let wakes = contractum.wakes(alloc, variables)?;
+    let body = Body::Written {
+        fresh,
+        moves,
+        wakes,
+    };
+    let symbol = match parts.head {
+        Some(symbol) => symbol,
+        None => 0,
+    };
+    Ok(Rule {
+        symbol,
+        group,
+        variables: variables.count() as u8,
+        pattern,
+        body,
+    })
+}
+
+/// The first fault of a rule whose pattern has none, by those that are known, or what it means.
+fn with_pattern(
+    alloc: Global,
+    scopes: &Scopes,
+    owner: usize,
+    group: u32,
+    tree: &RuleTree,
+    parts: &RuleParts,
+    faults: Vec<Refusal>,
+    pattern: Pat,
+) -> Result<Rule, TextFault>
+    requires ready { IsReady parts.now.variables parts.now.contractum }
+    requires drawn { AreDrawn (map term_of_part tree.now.parts) parts.now.contractum.drawing parts.now.contractum.targets.items }
+    ensures faults { TellsFaults (Contains (faults.items ++ fixed_faults scopes.now owner parts.now pattern)) result }
+    ensures meaning { IfOk result (λ r. r ≡ meant_of scopes.now owner group tree.now parts.now pattern) }
+{
+    let mut faults = faults;
+    not_overwritable(
+        &mut faults,
+        scopes,
+        owner,
+        &parts.variables,
+        &parts.roots,
+        &pattern,
+        parts.lefts.as_slice(),
+    )?;
+    match first(faults.as_slice()) {
+        Some(refusal) => Err(TextFault::Refused(refusal)),
+        None => Ok(meant(alloc, scopes, owner, group, tree, parts, pattern)?),
+    }
+}
+
+/// A rule of the module, in the group of that number, or its first fault.
+pub fn rule(
+    alloc: Global,
+    text: &Text,
+    scopes: &Scopes,
+    owner: usize,
+    group: u32,
+    tree: &RuleTree,
+) -> Result<Rule, TextFault>
+    requires { IsScopesOf text.now scopes.now }
+    ensures faults { TellsFaults (Contains (rule_faults text.now owner tree.now)) result }
+    ensures meaning { IfOk result (λ r. r ≡ rule_of text.now owner group tree.now) }
+    ensures counts { IfOk result (λ r. AreCountable (map term_of_part tree.now.parts)) }
+{
+    let parts = read(alloc, text, scopes, owner, tree)?;
+    let faults = early_faults(alloc, scopes, owner, tree, &parts)?;
+    match pattern(alloc, text, scopes, owner, false, tree.place, &tree.pattern) {
+        Ok(expanded) => with_pattern(
+            alloc,
+            scopes,
+            owner,
+            group,
+            tree,
+            &parts,
+            faults,
+            expanded.pat,
+        ),
+        Err(TextFault::Refused(refusal)) => {
+            Err(refused(faults.as_slice(), parts.lefts.as_slice(), refusal))
+        }
+        Err(TextFault::Memory) => Err(TextFault::Memory),
     }
 }

@@ -1,0 +1,158 @@
+//! From a text to its program.
+ghost use Rattle.std.specs.Prelude.{◌≡◌, ◌⊎◌, ◌++◌, true, Contains, IfOk, map};
+ghost use Rattle.std.specs.List.{flat_map};
+ghost use Rattle.dactl_model.specs.Programs.{IsValid};
+ghost use Rattle.dactl_syntax.specs.Declarations.{items as items_in};
+ghost use Rattle.dactl_syntax.specs.Faults.{NoFault, TellsFaults};
+ghost use Rattle.dactl_syntax.specs.Meaning.{CycleFault, RuleFault, arithmetic_rules, named_faults, program_of};
+ghost use Rattle.dactl_syntax.specs.RuleFaults.{pattern_faults};
+ghost use Rattle.dactl_syntax.specs.ScopeFaults.{ScopeFault};
+ghost use Rattle.dactl_symbols.specs.Least.{TellsLeast};
+ghost use Rattle.dactl_symbols.specs.Scoping.{IsScopesOf, seen_in, symbols_in};
+ghost use Rattle.dactl_rules.specs.Initials.{initials_in, start_in};
+ghost use Rattle.dactl_rules.specs.Drafts.{IsDraft};
+ghost use Rattle.dactl_rules.specs.Listing.{placed};
+ghost use Rattle.dactl_syntax.specs.Spelling.{IsSpelled};
+
+use crate::initials::{initial_fault, start};
+use crate::listing::{Placed, items};
+use crate::ruling::{Ruling, rules};
+use dactl_base::refusal::{Memory, Place, Refusal, TextFault};
+use dactl_model::arithmetic::arithmetic_rule;
+use dactl_model::program::{Op, Program, Rule};
+use dactl_patterns::{cycles, pattern};
+use dactl_symbols::least::lesser;
+use dactl_symbols::sight::Scopes;
+use dactl_syntax::tree::{Item, PatternTree, Text};
+use sqlite_items::Items;
+use std::alloc::{AllocError, Global};
+
+/// The numbers of groups are below this one. More groups are want of memory.
+const GROUP_NUMBERS: u32 = 0x8000_0000;
+
+fn pattern_fault(
+    alloc: Global,
+    text: &Text,
+    scopes: &Scopes,
+    owner: usize,
+    place: Place,
+    tree: &PatternTree,
+) -> Result<Option<Refusal>, Memory>
+    requires { IsScopesOf text.now scopes.now }
+    ensures { IfOk result (TellsLeast (Contains (pattern_faults text.now owner true place.byte tree.now))) }
+{
+    match pattern(alloc, text, scopes, owner, true, place, tree) {
+        Ok(_) => Ok(None),
+        Err(TextFault::Refused(refusal)) => Ok(Some(refusal)),
+        Err(TextFault::Memory) => Err(AllocError),
+    }
+}
+
+fn named_fault(
+    alloc: Global,
+    text: &Text,
+    scopes: &Scopes,
+    item: Placed,
+) -> Result<Option<Refusal>, Memory>
+    requires { IsScopesOf text.now scopes.now }
+    ensures { IfOk result (TellsLeast (Contains (named_faults text.now (placed item.entry)))) }
+{
+    match item.item {
+        Item::Named {
+            name,
+            pattern: tree,
+            ..
+        } => pattern_fault(alloc, text, scopes, item.owner, name.place, tree),
+        _ => Ok(None),
+    }
+}
+
+/// The first fault of the named patterns among the items.
+fn first_named_fault(
+    alloc: Global,
+    text: &Text,
+    scopes: &Scopes,
+    items: &[Placed],
+) -> Result<Option<Refusal>, Memory>
+    requires { IsScopesOf text.now scopes.now }
+    ensures { IfOk result (TellsLeast (Contains (flat_map (named_faults text.now) (map placed items.now)))) }
+{
+    let mut least = None;
+    for item in items {
+        let here = named_fault(alloc, text, scopes, *item)?;
+        least = lesser(least, here);
+    }
+    Ok(least)
+}
+
+/// The rules of the built-in arithmetic.
+fn built_in(alloc: Global) -> Result<Items<Rule>, Memory>
+    ensures { IfOk result (λ rules. rules ≡ arithmetic_rules) }
+{
+    let mut rules = Items::new(alloc);
+    rules.push(arithmetic_rule(alloc, 0, Op::Add)?)?;
+    rules.push(arithmetic_rule(alloc, 1, Op::Sub)?)?;
+    rules.push(arithmetic_rule(alloc, 2, Op::Mul)?)?;
+    rules.push(arithmetic_rule(alloc, 3, Op::Eq)?)?;
+    rules.push(arithmetic_rule(alloc, 4, Op::Lt)?)?;
+    Ok(rules)
+}
+
+/// The rules of a text, and the first fault of its named patterns, rules and first graphs.
+fn draft(alloc: Global, text: &Text, scopes: &Scopes, items: &[Placed]) -> Result<Ruling, Memory>
+    requires scopes { IsScopesOf text.now scopes.now }
+    requires items { map placed items.now ≡ items_in text.now }
+    ensures { IfOk result (IsDraft text.now) }
+{
+    let named = first_named_fault(alloc, text, scopes, items)?;
+    let initial = initial_fault(alloc, scopes, items)?;
+    let mut ruling = rules(alloc, text, scopes, items)?;
+    ruling.fault = lesser(lesser(named, ruling.fault), initial);
+    Ok(ruling)
+}
+
+/// The program of these rules, behind those of the arithmetic.
+fn assemble(
+    alloc: Global,
+    scopes: &Scopes,
+    items: &[Placed],
+    written: Vec<Rule>,
+) -> Result<Program, Memory>
+    ensures { IfOk result (λ p. p ≡ record { symbols = symbols_in scopes.now; rules = arithmetic_rules ++ written.items; start = start_in (seen_in scopes.now) (flat_map initials_in (map placed items.now)) }) }
+{
+    let symbols = scopes.symbols(alloc)?;
+    let mut rules = built_in(alloc)?;
+    rules.append(Items::from_vec(written))?;
+    let start = start(alloc, scopes, items)?;
+    Ok(Program {
+        symbols,
+        rules,
+        start,
+    })
+}
+
+/// The program of a text whose scopes these are, or its first fault among named patterns that reach
+/// themselves, patterns, rules and first graphs: a cycle before all others, and otherwise by place,
+/// and at one place by the order of the kinds. The program is valid where the names of the text have
+/// no fault. More groups, new nodes or arcs than have numbers of 31 bits are want of memory.
+pub fn program(alloc: Global, text: &Text, scopes: &Scopes) -> Result<Program, TextFault>
+    requires { IsScopesOf text.now scopes.now }
+    ensures faults { TellsFaults (λ r. CycleFault text.now r ⊎ RuleFault text.now r) result }
+    ensures meaning { IfOk result (λ p. p ≡ program_of text.now) }
+    ensures valid { IsSpelled text.now → NoFault (ScopeFault text.now) → IfOk result IsValid }
+{
+    cycles(alloc, text, scopes)?;
+    let items = items(alloc, text)?;
+    let Ruling {
+        rules: written,
+        group,
+        fault,
+    } = draft(alloc, text, scopes, items.as_slice())?;
+    if let Some(refusal) = fault {
+        return Err(TextFault::Refused(refusal));
+    }
+    if group >= GROUP_NUMBERS {
+        return Err(TextFault::Memory);
+    }
+    Ok(assemble(alloc, scopes, items.as_slice(), written)?)
+}

@@ -1,0 +1,140 @@
+//! The rules of a text, group by group, and the first of their faults.
+ghost use Rattle.std.specs.Prelude.{◌≡◌, [], ◌∷◌, IfOk, OnOk, map};
+ghost use Rattle.std.specs.List.{flat_map};
+ghost use Rattle.dactl_syntax.specs.Meaning.{rule_of};
+ghost use Rattle.dactl_syntax.specs.RuleFaults.{rule_faults};
+ghost use Rattle.dactl_symbols.specs.Scoping.{IsScopesOf};
+ghost use Rattle.dactl_rules.specs.Listing.{placed};
+ghost use Rattle.dactl_rules.specs.Ruling.{Adds, AddsGroups, HasRules, terms_of, placed_groups, groups_in};
+
+use crate::listing::Placed;
+use crate::rule::rule;
+use dactl_base::refusal::{Memory, Refusal, TextFault};
+use dactl_model::program::Rule;
+use dactl_symbols::least::lesser;
+use dactl_symbols::sight::Scopes;
+use dactl_syntax::tree::{Group, Item, RuleTree, Text};
+use std::alloc::{AllocError, Global};
+
+/// Rules so far, the number of the next group, and the first fault so far. Behind a fault there may
+/// be rules missing.
+#[derive(Drop)]
+pub struct Ruling {
+    pub rules: Vec<Rule>,
+    pub group: u32,
+    pub fault: Option<Refusal>,
+}
+
+impl Ruling {
+    fn add_rule(
+        &mut self,
+        alloc: Global,
+        text: &Text,
+        scopes: &Scopes,
+        owner: usize,
+        tree: &RuleTree,
+    ) -> Result<(), Memory>
+        requires { IsScopesOf text.now scopes.now }
+        ensures { OnOk result (Adds (rule_faults text.now owner tree.now) (rule_of text.now owner self.old.group tree.now ∷ []) (terms_of tree.now ∷ []) 0 self.old self.new) }
+    {
+        match rule(alloc, text, scopes, owner, self.group, tree) {
+            Ok(rule) => {
+                self.rules.push(rule)?;
+            }
+            Err(TextFault::Refused(refusal)) => {
+                self.fault = lesser(self.fault, Some(refusal));
+            }
+            Err(TextFault::Memory) => return Err(AllocError),
+        }
+        Ok(())
+    }
+
+    fn add_rules(
+        &mut self,
+        alloc: Global,
+        text: &Text,
+        scopes: &Scopes,
+        owner: usize,
+        rules: &[RuleTree],
+    ) -> Result<(), Memory>
+        requires { IsScopesOf text.now scopes.now }
+        ensures { OnOk result (Adds (flat_map (rule_faults text.now owner) rules.now) (map (rule_of text.now owner self.old.group) rules.now) (map terms_of rules.now) 0 self.old self.new) }
+    {
+        for tree in rules {
+            self.add_rule(alloc, text, scopes, owner, tree)?;
+        }
+        Ok(())
+    }
+
+    fn add_group(
+        &mut self,
+        alloc: Global,
+        text: &Text,
+        scopes: &Scopes,
+        owner: usize,
+        group: &Group,
+    ) -> Result<(), Memory>
+        requires { IsScopesOf text.now scopes.now }
+        ensures { OnOk result (Adds (flat_map (rule_faults text.now owner) group.now.rules) (map (rule_of text.now owner self.old.group) group.now.rules) (map terms_of group.now.rules) 1 self.old self.new) }
+    {
+        self.add_rules(alloc, text, scopes, owner, group.rules.as_slice())?;
+        self.group = self.group.checked_add(1).ok_or(AllocError)?;
+        Ok(())
+    }
+
+    fn add_groups(
+        &mut self,
+        alloc: Global,
+        text: &Text,
+        scopes: &Scopes,
+        owner: usize,
+        groups: &[Group],
+    ) -> Result<(), Memory>
+        requires { IsScopesOf text.now scopes.now }
+        ensures { OnOk result (AddsGroups text.now (placed_groups owner groups.now) self.old self.new) }
+    {
+        for group in groups {
+            self.add_group(alloc, text, scopes, owner, group)?;
+        }
+        Ok(())
+    }
+
+    fn add_item(
+        &mut self,
+        alloc: Global,
+        text: &Text,
+        scopes: &Scopes,
+        item: Placed,
+    ) -> Result<(), Memory>
+        requires { IsScopesOf text.now scopes.now }
+        ensures { OnOk result (AddsGroups text.now (groups_in (placed item.entry)) self.old self.new) }
+    {
+        match item.item {
+            Item::Rules { groups } => {
+                self.add_groups(alloc, text, scopes, item.owner, groups.as_slice())
+            }
+            _ => Ok(()),
+        }
+    }
+}
+
+/// The rules of the items, whose first group has the number 5, behind those of the arithmetic.
+pub fn rules(
+    alloc: Global,
+    text: &Text,
+    scopes: &Scopes,
+    items: &[Placed],
+) -> Result<Ruling, Memory>
+    requires { IsScopesOf text.now scopes.now }
+    ensures { IfOk result (HasRules text.now (flat_map groups_in (map placed items.now))) }
+{
+    let mut ruling = Ruling {
+        rules: Vec::new(alloc),
+        group: 5,
+        fault: None,
+    };
+    for item in items {
+        ruling.add_item(alloc, text, scopes, *item)?;
+    }
+    Ok(ruling)
+}
