@@ -1,7 +1,8 @@
 -- Trees of paths, one level at a time.
-use Rattle.std.proofs.Common.{◌≡◌, ℕ, zero, suc, ◌+◌, ◌<◌, ◌≤◌, Bool, true, false, ◌&&◌, ◌||◌, List, [], ◌∷◌, ◌++◌, map, length, refl, sym, ◌∙◌, ap, arith, slice_get, slice_set, Some, None, Option, cond, sum, subst, length-set, inl, inr}
-use Rattle.std.specs.Option.{option_map, SomeIff, IfSome}
+use Rattle.std.proofs.Common.{◌≡◌, ℕ, zero, suc, ◌+◌, ◌^◌, ◌<◌, ◌≤◌, Bool, true, false, ◌&&◌, ◌||◌, List, [], ◌∷◌, ◌++◌, map, take, get_or, length, refl, sym, ◌∙◌, ap, arith, slice_get, slice_set, Some, None, Option, cond, sum, subst, length-set, inl, inr}
+use Rattle.std.specs.Option.{option_map, SomeIff, IfSome, IfNone}
 use Rattle.std.proofs.lemmas.Bool.{cases_lt}
+use Rattle.std.proofs.lemmas.List.Sums.{sum-map, sum_by_more_le}
 use Rattle.std.proofs.lemmas.Option.{slice_get_past, slice_get-map, slice_get_within}
 use Rattle.dactl_model.specs.declared.program.Pat.{Pat}
 use Rattle.dactl_model.specs.declared.program.Pat.TheOpen.{Pat-F}
@@ -137,3 +138,19 @@ size_out t = fold_out-PathTree ℕ size_level t
 pub counted : (r : Option ℕ) (P : Type 0) (x y : ℕ) → SomeIff r P x → x ≡ y → IfSome r (λ n. n ≡ y)
 counted None P x y is e = tt
 counted (Some n) P x y is e = is.1 ∙ e
+
+pub not_below : (x : ℕ) → (x < 2 ^ 32 → ⊥) → 2 ^ 32 ≤ x
+not_below x not = elim (cases_lt x (2 ^ 32)) [ inl below ↦ absurd (not below) | inr above ↦ above ]
+
+-- a sum that has no 32 bits
+pub not_counted : (r : Option ℕ) (x y : ℕ) → SomeIff r (x < 2 ^ 32) x → x ≡ y → IfNone r (2 ^ 32 ≤ y)
+not_counted None x y is e = omega (arith, not_below x is, e)
+not_counted (Some n) x y is e = tt
+
+-- what is below a node counts
+pub below_counts : (t : PathTree) → 2 ^ 32 ≤ sum (map size (out-PathTree t).below.items) → 2 ^ 32 ≤ size t
+below_counts t past = omega (arith, size_out t, past)
+
+-- nor has the whole sum then
+pub past_each : (trees : List PathTree) (i : ℕ) (d : PathTree) (total item : ℕ) → i < length trees → total ≡ sum (map size (take i trees)) → item ≡ size (get_or trees i d) → 2 ^ 32 ≤ total + item → 2 ^ 32 ≤ sum (map size trees)
+past_each trees i d total item inside so_far is past = omega (arith, sum-map size trees, sum-map size (take i trees), sum_by_more_le size trees i d inside, so_far, is, past)

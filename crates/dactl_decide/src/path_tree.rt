@@ -1,5 +1,5 @@
 //! The places of the tests of patterns.
-ghost use Rattle.std.specs.Prelude.{◌≡◌, ◌≤◌, ◌||◌, ℕ, false, List, OnOk, IfSome, length, map, sum};
+ghost use Rattle.std.specs.Prelude.{◌≡◌, ◌≤◌, ◌^◌, ◌||◌, ℕ, false, List, OnOk, IfSome, IfNone, length, map, sum};
 ghost use Rattle.dactl_decide.specs.Paths.{is_root, tests, tests_below};
 ghost use Rattle.dactl_decide.specs.PathTrees.{has, size};
 
@@ -85,10 +85,11 @@ fn add_each(alloc: Global, patterns: &[Pat], trees: &mut Vec<PathTree>) -> Resul
     Ok(())
 }
 
-/// How many paths the tree has, if the number fits.
+/// How many paths the tree has, or None where there are 2^32 or more.
 #[cycle(count)]
 pub fn count(tree: &PathTree) -> Option<u32>
-    ensures { IfSome result (λ n. n ≡ size tree.now) }
+    ensures number { IfSome result (λ n. n ≡ size tree.now) }
+    ensures many { IfNone result (2 ^ 32 ≤ size tree.now) }
 {
     let below = count_each(tree.below.as_slice())?;
     if tree.tested {
@@ -100,7 +101,8 @@ pub fn count(tree: &PathTree) -> Option<u32>
 
 #[cycle(count)]
 fn count_each(trees: &[PathTree]) -> Option<u32>
-    ensures { IfSome result (λ n. n ≡ sum (map size trees.now)) }
+    ensures number { IfSome result (λ n. n ≡ sum (map size trees.now)) }
+    ensures many { IfNone result (2 ^ 32 ≤ sum (map size trees.now)) }
 {
     let mut total = 0u32;
     for tree in trees {

@@ -46,15 +46,15 @@ module _ (rules : List Rule) (f : ℕ) (rs : List Reading) (n : NodeId) (numbers
   all_no all s rule below is symbol = All-contains (IsNumberNo rules rs n) numbers s all (number_of s rule is symbol) rule is
 
   -- the numbers ascend, so a lesser one stands before
-  pub no_before : (i d : ℕ) → i < length numbers → All (IsNumberNo rules rs n) (take i numbers) → AreNo rules f rs n (get_or numbers i d)
-  no_before i d inside all s rule below is symbol =
+  pub before : (Q : ℕ → Type 0) (i d : ℕ) → i < length numbers → All Q (take i numbers) → (s : ℕ) (rule : Rule) → s < get_or numbers i d → slice_get rules s ≡ Some rule → rule.symbol ≡ f → Q s
+  before Q i d inside all s rule below is symbol =
       let at = number_of s rule is symbol in
       let k = at.0 in
       elim (cases_lt k i) [
-        | inl before ↦ (
+        | inl earlier ↦ (
             let within : k < length (take i numbers) = omega (arith, length-take i numbers) in
-            let taken : get_or (take i numbers) k s ≡ s = get_or-take i numbers k s before ∙ at.2 in
-            subst (λ x. IsNumberNo rules rs n x) taken (all k s within) rule is)
+            let taken : get_or (take i numbers) k s ≡ s = get_or-take i numbers k s earlier ∙ at.2 in
+            subst Q taken (all k s within))
         | inr not_before ↦ absurd (past k s at.1 at.2 below not_before)
       ]
     where
@@ -64,6 +64,9 @@ module _ (rules : List Rule) (f : ℕ) (rs : List Reading) (n : NodeId) (numbers
             | inl later ↦ (let ascends = are.ascending i k d later within in let same : get_or numbers k d ≡ s = get_or_default numbers k d s within ∙ is_s in omega (arith, ascends, same, below))
             | inr same_place ↦ (let at : k ≡ i = omega arith in let same : get_or numbers i d ≡ s = ap (λ j. get_or numbers j d) (sym at) ∙ (get_or_default numbers k d s within ∙ is_s) in omega (arith, same, below))
           ]
+
+  pub no_before : (i d : ℕ) → i < length numbers → All (IsNumberNo rules rs n) (take i numbers) → AreNo rules f rs n (get_or numbers i d)
+  no_before i d inside all s rule below is symbol = before (IsNumberNo rules rs n) i d inside all s rule below is symbol rule is
 
   -- the rule of a number in the list
   pub open_rule : (i d : ℕ) (rule : Rule) (P : Rule → Type 0) → i < length numbers → slice_get rules (get_or numbers i d) ≡ Some rule → P rule → HasRule rules f (get_or numbers i d) P
@@ -149,19 +152,25 @@ module _ (p : Program) (valid : IsValid p) (rs : List Reading) (n : NodeId) wher
   is_read : (r : Reading) → reading_of rs n ≡ Some r → IsSome (reading_of rs n)
   is_read r is = subst (λ o. IsSome o) (sym is) refl
 
-  -- a rule has the node's symbol, or is No
-  symbol_or_no : (f : ℕ) → SymbolRead f → (s : ℕ) (rule : Rule) → slice_get p.rules s ≡ Some rule → (rule.symbol ≡ f) ⊎ IsRuleNo rs n rule
-  symbol_or_no f read s rule is =
-      (elim (rule.symbol == f) as (λ b. (rule.symbol == f) ≡ b → (rule.symbol ≡ f) ⊎ IsRuleNo rs n rule) [
+  -- a rule has the node's symbol, or its pattern fails
+  pub symbol_or_fails : (f : ℕ) → HasSymbolRead rs n f → (s : ℕ) (rule : Rule) → slice_get p.rules s ≡ Some rule → (rule.symbol ≡ f) ⊎ ((told rs rule.pattern n).value ≡ value.No)
+  symbol_or_fails f has s rule is =
+      (elim (rule.symbol == f) as (λ b. (rule.symbol == f) ≡ b → (rule.symbol ≡ f) ⊎ ((told rs rule.pattern n).value ≡ value.No)) [
         | true ↦ λ e. inl (eqb-true rule.symbol f e)
-        | false ↦ λ e. inr (other_no read.reading read.is s rule is (ap (λ l. has_symbol l rule.symbol) read.label ∙ flipped e))
+        | false ↦ λ e. inr (head_fails rs n read.reading read.is rule.pattern rule.symbol (valid.rules s rule is).head (ap (λ l. has_symbol l rule.symbol) read.label ∙ flipped e))
       ]) refl
     where
+      read : SymbolRead f
+      read = symbol_read f has
+
       flipped : (rule.symbol == f) ≡ false → (f == rule.symbol) ≡ false
       flipped e = (elim (f == rule.symbol) as (λ b. (f == rule.symbol) ≡ b → b ≡ false) [
         | true ↦ λ same. (let clash : true ≡ false = sym (eq-eqb rule.symbol f (sym (eqb-true f rule.symbol same))) ∙ e in cc)
         | false ↦ λ same. refl
       ]) refl
+
+  symbol_or_no : (f : ℕ) → HasSymbolRead rs n f → (s : ℕ) (rule : Rule) → slice_get p.rules s ≡ Some rule → (rule.symbol ≡ f) ⊎ IsRuleNo rs n rule
+  symbol_or_no f has s rule is = elim (symbol_or_fails f has s rule is) [ inl symbol ↦ inl symbol | inr fails ↦ inr (inl fails) ]
 
   -- groups rise along the rules
   rises : (s r : ℕ) (a b : Rule) → slice_get p.rules s ≡ Some a → slice_get p.rules r ≡ Some b → a.group < b.group → s < r
@@ -185,7 +194,7 @@ module _ (p : Program) (valid : IsValid p) (rs : List Reading) (n : NodeId) wher
   notes f has none = record {
     read = is_read (symbol_read f has).reading (symbol_read f has).is;
     none = λ k d within. (let is = slice_get-get_or p.rules k d within in
-        elim (symbol_or_no f (symbol_read f has) k (get_or p.rules k d) is) [
+        elim (symbol_or_no f has k (get_or p.rules k d) is) [
           | inl symbol ↦ none k (get_or p.rules k d) within is symbol
           | inr fails ↦ fails
         ]);
@@ -225,7 +234,7 @@ module _ (p : Program) (valid : IsValid p) (rs : List Reading) (n : NodeId) wher
   undecided f q first has is_first symbol unknown none no_yes_there (event.Fire m r) at shows = at_n (subst (λ k. ShowsFire p rs k r shows.0) at shows.1)
     where
       at_n : ShowsFire p rs n r shows.0 → ⊥
-      at_n shown = elim (symbol_or_no f (symbol_read f has) r shown.rule shown.is_rule) [
+      at_n shown = elim (symbol_or_no f has r shown.rule shown.is_rule) [
         | inr fails ↦ no_yes rs n shown.rule fails shown.yes
         | inl root ↦ elim (cases_lt shown.rule.group first.group) [
           | inl before ↦ no_yes rs n shown.rule (none r shown.rule (rises r q shown.rule first shown.is_rule is_first before) shown.is_rule root) shown.yes

@@ -3,3 +3,5 @@ pub mod Founds
 pub mod Rules
 pub mod Decided
 pub mod Traced
+pub mod Further
+pub mod Passing

@@ -48,14 +48,14 @@ first_later x xs (y ∷ ys) agree first =
     go true e = e
     go false e = left_true _ _ first
 
-first_from_agreed : (pairs : List (ℕ × NodeId)) → no_conflict pairs ≡ true → list_all (is_first pairs) pairs ≡ true
+pub first_from_agreed : (pairs : List (ℕ × NodeId)) → no_conflict pairs ≡ true → list_all (is_first pairs) pairs ≡ true
 first_from_agreed [] agreed = refl
 first_from_agreed (x ∷ xs) agreed =
     let self : is_first (x ∷ xs) x ≡ true = ap (λ b. is_bound (if b then Some x.1 else first_node xs x.0) x.1) (eq-eqb x.0 x.0 refl) ∙ eq-eqb x.1.number x.1.number refl in
     let rest : list_all (is_first (x ∷ xs)) xs ≡ true = first_later x xs xs (left_true _ _ agreed) (first_from_agreed xs (right_true _ _ agreed)) in
     rw (self, rest) refl
 
-agreed_from_first : (whole pairs : List (ℕ × NodeId)) → list_all (is_first whole) pairs ≡ true → no_conflict pairs ≡ true
+pub agreed_from_first : (whole pairs : List (ℕ × NodeId)) → list_all (is_first whole) pairs ≡ true → no_conflict pairs ≡ true
 agreed_from_first whole [] first = refl
 agreed_from_first whole (x ∷ xs) first =
     let here : list_all (agrees x) xs ≡ true = each xs (right_true _ _ first) in

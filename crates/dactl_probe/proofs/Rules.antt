@@ -16,6 +16,7 @@ use Rattle.dactl_probe.specs.declared.finding.Finding.{Finding}
 use Rattle.dactl_probe.specs.declared.finding.Finding.TheVariants.{No, Unknown, Yes}
 use Rattle.dactl_probe.specs.Findings.{found}
 use Rattle.dactl_probe.specs.Leading.{Needs}
+use Rattle.dactl_probe.specs.Lost.{IsRuleLost}
 use Rattle.dactl_probe.proofs.Founds.{founds, value_of}
 
 -- a valid arithmetic rule has two variables
@@ -77,6 +78,12 @@ module _ (rs : List Reading) (n : NodeId) (rule : Rule) where
 
   pub no_pattern : No ≡ found rs rule.pattern n → IsRuleNo rs n rule
   no_pattern e = inl (value_is No e)
+
+  pub pattern_lost : No ≡ found rs rule.pattern n → IsRuleLost rs n rule
+  pattern_lost e = inl (value_is No e)
+
+  pub conflict_lost : false ≡ no_conflict (told rs rule.pattern n).pairs → IsRuleLost rs n rule
+  conflict_lost e = inr (sym e)
 
   pub conflict : false ≡ no_conflict (told rs rule.pattern n).pairs → IsRuleNo rs n rule
   conflict e = inr (inl (sym e))

@@ -3,6 +3,7 @@
 
 mod binding;
 mod finding;
+mod lost;
 mod probe;
 mod reading;
 mod rule;

@@ -4,6 +4,7 @@ ghost use Rattle.dactl_model.specs.Acts.{node_of_event};
 ghost use Rattle.dactl_model.specs.RuleTold.{bindings_told, Shows};
 ghost use Rattle.dactl_probe.specs.Probing.{Probing, IsProbing};
 
+use crate::lost::Lost;
 use crate::rule::bound;
 use crate::verdict::{Verdict, judge, rule_of};
 use dactl_decide::Deciders;
@@ -29,6 +30,7 @@ pub struct Probe<'a> {
     node: NodeId,
     footprint: Footprint,
     verdict: Verdict,
+    lost: Lost,
 }
 
 impl<'a> Model for Probe<'a> {
@@ -44,7 +46,7 @@ impl<'a> Model for Probe<'a> {
 
     ghost view = { λ p. record { decisions = p.deciders.now; node = p.node; readings = p.footprint.readings; room = p.footprint.room; next = next_of p.verdict } };
 
-    ghost invariant = { λ p. IsSound p.deciders.now p.node p.footprint p.verdict };
+    ghost invariant = { λ p. IsSound p.deciders.now p.node p.footprint p.verdict p.lost.below };
 }
 
 /// Puts the nodes of the rule's variables into the footprint.
@@ -68,12 +70,13 @@ impl<'a> Probe<'a> {
         ensures probing { IsProbing result }
     {
         room.clear();
-        let verdict = judge(deciders, room.readings(), node);
+        let begun = judge(deciders, Lost::none(), room.readings(), node);
         Probe {
             deciders,
             node,
             footprint: room,
-            verdict,
+            verdict: begun.verdict,
+            lost: begun.lost,
         }
     }
 
@@ -95,7 +98,14 @@ impl<'a> Probe<'a> {
         ensures probing { IsProbing self.new }
     {
         self.footprint.push_reading(reading);
-        self.verdict = judge(self.deciders, self.footprint.readings(), self.node);
+        let judged = judge(
+            self.deciders,
+            self.lost,
+            self.footprint.readings(),
+            self.node,
+        );
+        self.verdict = judged.verdict;
+        self.lost = judged.lost;
         self.need()
     }
 
@@ -114,6 +124,7 @@ impl<'a> Probe<'a> {
             node,
             mut footprint,
             verdict,
+            lost: _,
         } = self;
         match verdict {
             Verdict::Fire(rule) => {

@@ -1,3 +1,5 @@
+mod wide;
+
 ghost use Rattle.std.specs.Prelude.{◌≡◌};
 
 use crate::{Next, Probe};
@@ -82,13 +84,18 @@ fn rule(
     })
 }
 
-/// The rules of the arithmetic, and these as numbers 5 and 6.
-fn rules(alloc: Global, first: Rule, second: Rule) -> Result<Items<Rule>, Memory> {
+fn arithmetic(alloc: Global) -> Result<Items<Rule>, Memory> {
     let mut all = Items::new(alloc);
     let operations = [Op::Add, Op::Sub, Op::Mul, Op::Eq, Op::Lt];
     for (number, op) in operations.into_iter().enumerate() {
         all.push(arithmetic_rule(alloc, number as u32, op)?)?;
     }
+    Ok(all)
+}
+
+/// The rules of the arithmetic, and these as numbers 5 and 6.
+fn rules(alloc: Global, first: Rule, second: Rule) -> Result<Items<Rule>, Memory> {
+    let mut all = arithmetic(alloc)?;
     all.push(first)?;
     all.push(second)?;
     Ok(all)
@@ -138,7 +145,9 @@ fn get_and_put(alloc: Global) -> Result<Program, Memory> {
     program(alloc, get, put)
 }
 
-fn id(number: u32) -> NodeId {
+fn id(number: u32) -> NodeId
+    ensures { result ≡ record { number = number } }
+{
     NodeId { number }
 }
 

@@ -2,9 +2,11 @@
 ghost use Rattle.std.specs.Prelude.{◌≡◌, ◌<◌, Some, length, slice_get};
 ghost use Rattle.dactl_model.specs.Programs.{IsValid, IsDelta};
 ghost use Rattle.dactl_decide.specs.Decisions.{AreDecisions};
+ghost use Rattle.dactl_probe.specs.Lost.{AreLost};
 ghost use Rattle.dactl_probe.specs.Verdicts.{IsFirstOpen, IsYesInGroup, HasSymbolRead, IsVerdict};
 
 use crate::finding::Finding;
+use crate::lost::{Lost, pass};
 use crate::reading::reading_of;
 use crate::rule::{find_rule, is_yes_in_group};
 use dactl_decide::Deciders;
@@ -19,6 +21,13 @@ pub enum Verdict {
     Need(NodeId),
     Fire(u32),
     Note,
+}
+
+/// A verdict, and the rules that fail whatever is read further.
+#[derive(Clone, Copy, Debug)]
+pub struct Judgement {
+    pub verdict: Verdict,
+    pub lost: Lost,
 }
 
 /// A rule that isn't known to fail: it matches, or waits for a node to be read.
@@ -39,15 +48,24 @@ pub fn rule_of(program: &Program, number: u32) -> &Rule
 }
 
 /// The first rule of the symbol that isn't known to fail.
-fn first_open(deciders: &Deciders, symbol: u32, readings: &[Reading], node: NodeId) -> Option<Open>
+fn first_open(
+    deciders: &Deciders,
+    symbol: u32,
+    lost: Lost,
+    readings: &[Reading],
+    node: NodeId,
+) -> Option<Open>
+    requires { AreLost deciders.now.program.rules readings.now node lost.below }
     ensures { IsFirstOpen deciders.now.program.rules symbol readings.now node result }
 {
     let program = deciders.program();
-    for &number in deciders.rules(symbol) {
-        match find_rule(readings, rule_of(program, number), node) {
+    let numbers = deciders.rules(symbol);
+    for place in lost.among(numbers)..numbers.len() {
+        let rule = numbers[place];
+        match find_rule(readings, rule_of(program, rule), node) {
             Finding::No => {}
-            Finding::Unknown(need) => return Some(Open::Waits { rule: number, need }),
-            Finding::Yes => return Some(Open::Fires(number)),
+            Finding::Unknown(need) => return Some(Open::Waits { rule, need }),
+            Finding::Yes => return Some(Open::Fires(rule)),
         }
     }
     None
@@ -58,14 +76,21 @@ fn yes_in_group(
     deciders: &Deciders,
     symbol: u32,
     group: u32,
+    lost: Lost,
     readings: &[Reading],
     node: NodeId,
 ) -> Option<u32>
+    requires { AreLost deciders.now.program.rules readings.now node lost.below }
     ensures { IsYesInGroup deciders.now.program.rules symbol group readings.now node result }
 {
     let program = deciders.program();
-    for &number in deciders.rules(symbol) {
+    let numbers = deciders.rules(symbol);
+    for place in lost.among(numbers)..numbers.len() {
+        let number = numbers[place];
         let rule = rule_of(program, number);
+        if rule.group > group {
+            return None;
+        }
         if is_yes_in_group(readings, rule, node, group) {
             return Some(number);
         }
@@ -74,17 +99,24 @@ fn yes_in_group(
 }
 
 /// What the readings decide at a node that was read and has the symbol.
-fn at_symbol(deciders: &Deciders, symbol: u32, readings: &[Reading], node: NodeId) -> Verdict
-    requires { HasSymbolRead readings.now node symbol }
+fn at_symbol(
+    deciders: &Deciders,
+    symbol: u32,
+    lost: Lost,
+    readings: &[Reading],
+    node: NodeId,
+) -> Verdict
+    requires symbol { HasSymbolRead readings.now node symbol }
+    requires lost { AreLost deciders.now.program.rules readings.now node lost.below }
     ensures { IsVerdict deciders.now.program readings.now node result }
 {
     let program = deciders.program();
-    match first_open(deciders, symbol, readings, node) {
+    match first_open(deciders, symbol, lost, readings, node) {
         None => Verdict::Note,
         Some(Open::Fires(rule)) => Verdict::Fire(rule),
         Some(Open::Waits { rule, need }) => {
             let group = rule_of(program, rule).group;
-            match yes_in_group(deciders, symbol, group, readings, node) {
+            match yes_in_group(deciders, symbol, group, lost, readings, node) {
                 Some(other) => Verdict::Fire(other),
                 None => Verdict::Need(need),
             }
@@ -92,17 +124,33 @@ fn at_symbol(deciders: &Deciders, symbol: u32, readings: &[Reading], node: NodeI
     }
 }
 
-/// What the readings decide at the node.
-pub fn judge(deciders: &Deciders, readings: &[Reading], node: NodeId) -> Verdict
-    ensures verdict { IsVerdict deciders.now.program readings.now node result }
+/// What the readings decide at the node, where the lost rules fail whatever is read. The rules that
+/// fail so from now on are those of the answer.
+///
+/// It takes time for the rules that are lost by the last reading, and for those of the group of the
+/// first rule that isn't.
+pub fn judge(deciders: &Deciders, lost: Lost, readings: &[Reading], node: NodeId) -> Judgement
+    requires { AreLost deciders.now.program.rules readings.now node lost.below }
+    ensures verdict { IsVerdict deciders.now.program readings.now node result.verdict }
+    ensures lost { AreLost deciders.now.program.rules readings.now node result.lost.below }
     ensures decisions { AreDecisions deciders.now }
 {
     let _program = deciders.program();
     match reading_of(readings, node) {
-        None => Verdict::Need(node),
+        None => Judgement {
+            verdict: Verdict::Need(node),
+            lost,
+        },
         Some(reading) => match reading.label {
-            Label::Symbol(symbol) => at_symbol(deciders, symbol, readings, node),
-            Label::Integer(_) => Verdict::Note,
+            Label::Symbol(symbol) => {
+                let lost = pass(deciders, symbol, lost, readings, node);
+                let verdict = at_symbol(deciders, symbol, lost, readings, node);
+                Judgement { verdict, lost }
+            }
+            Label::Integer(_) => Judgement {
+                verdict: Verdict::Note,
+                lost,
+            },
         },
     }
 }

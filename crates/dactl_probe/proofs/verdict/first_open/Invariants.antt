@@ -3,5 +3,5 @@ use Rattle.dactl_probe.proofs.Decided.{IsNumberNo}
 use Rattle.dactl_probe.proofs.verdict.first_open.Given as goal
 
 -- the rules so far are No
-abbrev pub invariant-loop-number : goal.invariant-loop-number
-invariant-loop-number l = All (IsNumberNo l.deciders.program.rules l.readings l.node) (take l.number-index l.number-items)
+abbrev pub invariant-loop-place : goal.invariant-loop-place
+invariant-loop-place l = All (IsNumberNo l.deciders.program.rules l.readings l.node) (take l.place l.numbers)

@@ -10,7 +10,7 @@ returns-in-Fire-clause-shows c =
     rw (← c.self.view_is) (shows_fire c.self.inside.deciders.now.program c.self.inside.footprint c.push_bindings.new.footprint c.self.inside.node c.self.inside.verdict c.in-Fire.rule c.rule_of.result.now c.self.invariant.decided c.in-Fire.is is c.push_bindings.ensures)
 
 pub returns-in-Fire-clause-probing : goal.returns-in-Fire-clause-probing
-returns-in-Fire-clause-probing c = rw (← c.self.view_is) (sound_probing _ _ _ _ c.self.invariant)
+returns-in-Fire-clause-probing c = rw (← c.self.view_is) (sound_probing _ _ _ _ _ c.self.invariant)
 
 pub returns-in-Note-clause-probing : goal.returns-in-Note-clause-probing
-returns-in-Note-clause-probing c = rw (← c.self.view_is) (sound_probing _ _ _ _ c.self.invariant)
+returns-in-Note-clause-probing c = rw (← c.self.view_is) (sound_probing _ _ _ _ _ c.self.invariant)

@@ -1,0 +1,78 @@
+-- What is lost is No, and is passed over.
+use Rattle.std.proofs.Common.{◌≡◌, ℕ, ◌+◌, ◌<◌, List, take, length, get_or, sym, ◌∙◌, ap, subst, arith, slice_get, Some, All, AllPairs, inl, inr}
+use Rattle.std.proofs.lemmas.Bool.{cases_lt}
+use Rattle.std.proofs.lemmas.List.{get_or-take, length-take, get_or_default}
+use Rattle.std.proofs.lemmas.Option.{slice_get_within, get_or_from_slice_get}
+use Rattle.dactl_model.specs.declared.graph.NodeId.{NodeId}
+use Rattle.dactl_model.specs.declared.reading.Reading.{Reading}
+use Rattle.dactl_model.specs.declared.program.Rule.{Rule}
+use Rattle.dactl_model.specs.declared.program.Program.{Program}
+use Rattle.dactl_model.specs.Programs.{IsValid}
+use Rattle.dactl_model.specs.RuleTold.{IsRuleNo}
+use Rattle.dactl_decide.specs.Decisions.{AreRulesOf}
+use Rattle.dactl_probe.specs.Lost.{IsRuleLost, AreLost}
+use Rattle.dactl_probe.specs.Verdicts.{HasSymbolRead}
+use Rattle.dactl_probe.proofs.Rules.{no_yes}
+use Rattle.dactl_probe.proofs.Decided.{IsNumberNo, IsNotYes, before, symbol_or_fails, same_rule}
+
+pub lost_no : (rs : List Reading) (n : NodeId) (rule : Rule) → IsRuleLost rs n rule → IsRuleNo rs n rule
+lost_no rs n rule (inl fails) = inl fails
+lost_no rs n rule (inr conflict) = inr (inl conflict)
+
+module _ (rules : List Rule) (rs : List Reading) (n : NodeId) (k : ℕ) (lost : AreLost rules rs n k) (numbers : List ℕ) where
+  pub taken_no : (i : ℕ) → All (λ r. r < k) (take i numbers) → All (IsNumberNo rules rs n) (take i numbers)
+  taken_no i all j d within rule is = lost_no rs n rule (lost (get_or (take i numbers) j d) rule (all j d within) is)
+
+  pub taken_not_yes : (group i : ℕ) → All (λ r. r < k) (take i numbers) → All (IsNotYes rules group rs n) (take i numbers)
+  taken_not_yes group i all j d within rule is same holds = no_yes rs n rule (lost_no rs n rule (lost (get_or (take i numbers) j d) rule (all j d within) is)) holds
+
+-- the numbers up to one are below the next number
+pub below_next : (numbers : List ℕ) → AllPairs (λ a b. a < b) numbers → (i d : ℕ) → i < length numbers → All (λ r. r < get_or numbers i d + 1) (take (i + 1) numbers)
+below_next numbers ascending i d inside j e within =
+    let early : j < i + 1 = omega (arith, within, length-take (i + 1) numbers) in
+    let there : j < length numbers = omega arith in
+    let at : get_or (take (i + 1) numbers) j e ≡ get_or numbers j d = get_or-take (i + 1) numbers j e early ∙ get_or_default numbers j e d there in
+    elim (cases_lt j i) [
+      | inl before ↦ (let less = ascending j i d before inside in omega (arith, at, less))
+      | inr not_before ↦ (let same : j ≡ i = omega arith in omega (arith, at, ap (λ m. get_or numbers m d) same))
+    ]
+
+module _ (p : Program) (valid : IsValid p) (rs : List Reading) (n : NodeId) (f : ℕ) (numbers : List ℕ) (are : AreRulesOf p.rules f numbers) where
+  -- the next rule of the symbol is lost, and so are those before it, which have other symbols or were passed
+  pub lost_next : (k i d : ℕ) (rule : Rule) → HasSymbolRead rs n f → AreLost p.rules rs n k → All (λ r. r < k) (take i numbers) → i < length numbers → slice_get p.rules (get_or numbers i d) ≡ Some rule → IsRuleLost rs n rule → AreLost p.rules rs n (get_or numbers i d + 1)
+  lost_next k i d rule has lost passed inside is fails s other below is_other =
+      elim (cases_lt s (get_or numbers i d)) [
+        | inl earlier ↦ elim (symbol_or_fails p valid rs n f has s other is_other) [
+          | inl symbol ↦ lost s other (before p.rules f rs n numbers are (λ r. r < k) i d inside passed s other earlier is_other symbol) is_other
+          | inr other_fails ↦ inl other_fails
+        ]
+        | inr not_earlier ↦ (
+            let same_number : get_or numbers i d ≡ s = omega arith in
+            let same : rule ≡ other = same_rule p.rules s rule other (ap (slice_get p.rules) (sym same_number) ∙ is) is_other in
+            subst (IsRuleLost rs n) same fails)
+      ]
+
+  -- behind a rule of a later group there is none of the group
+  pub no_more : (group i d : ℕ) (rule : Rule) → i < length numbers → slice_get p.rules (get_or numbers i d) ≡ Some rule → group < rule.group → All (IsNotYes p.rules group rs n) (take i numbers) → All (IsNotYes p.rules group rs n) numbers
+  no_more group i d rule inside is later all j e within other is_other same holds =
+      elim (cases_lt j i) [
+        | inl before_i ↦ (
+            let there : j < length (take i numbers) = omega (arith, length-take i numbers) in
+            let at : get_or (take i numbers) j e ≡ get_or numbers j e = get_or-take i numbers j e before_i in
+            subst (IsNotYes p.rules group rs n) at (all j e there) other is_other same holds)
+        | inr from_i ↦ elim (cases_lt i j) [
+          | inl behind ↦ (
+              let ascends : get_or numbers i d < get_or numbers j d = are.ascending i j d behind within in
+              let number : get_or numbers j d ≡ get_or numbers j e = get_or_default numbers j d e within in
+              let there : get_or numbers j e < length p.rules = slice_get_within p.rules (get_or numbers j e) other is_other in
+              let rises = valid.groups (get_or numbers i d) (get_or numbers j e) rule (omega (arith, ascends, number)) there in
+              let first : (get_or p.rules (get_or numbers i d) rule).group ≡ rule.group = ap (λ x. x.group) (get_or_from_slice_get p.rules (get_or numbers i d) rule rule is) in
+              let second : (get_or p.rules (get_or numbers j e) rule).group ≡ other.group = ap (λ x. x.group) (get_or_from_slice_get p.rules (get_or numbers j e) other rule is_other) in
+              absurd (omega (arith, rises, first, second, same, later)))
+          | inr not_behind ↦ (
+              let place : j ≡ i = omega arith in
+              let number : get_or numbers i d ≡ get_or numbers j e = ap (λ m. get_or numbers m d) (sym place) ∙ get_or_default numbers j d e within in
+              let one : rule ≡ other = same_rule p.rules (get_or numbers j e) rule other (ap (slice_get p.rules) (sym number) ∙ is) is_other in
+              absurd (omega (arith, ap (λ x. x.group) one, same, later)))
+        ]
+      ]

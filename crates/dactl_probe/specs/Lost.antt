@@ -1,0 +1,15 @@
+-- Rules that fail whatever is read further.
+use Rattle.std.specs.Prelude.{◌≡◌, ℕ, ◌<◌, ◌⊎◌, false, List, slice_get, Some}
+use Rattle.dactl_model.specs.declared.graph.NodeId.{NodeId}
+use Rattle.dactl_model.specs.declared.reading.Reading.{Reading}
+use Rattle.dactl_model.specs.declared.program.Rule.{Rule}
+use Rattle.dactl_model.specs.Readings.{No, told}
+use Rattle.dactl_model.specs.RuleTold.{no_conflict}
+
+-- the rule's pattern fails at n, or two pairs give one variable different nodes
+abbrev pub IsRuleLost : List Reading → NodeId → Rule → Type 0
+IsRuleLost rs n rule = ((told rs rule.pattern n).value ≡ No) ⊎ (no_conflict (told rs rule.pattern n).pairs ≡ false)
+
+-- the rules with numbers below k are lost
+abbrev pub AreLost : List Rule → List Reading → NodeId → ℕ → Type 0
+AreLost rules rs n k = (s : ℕ) (rule : Rule) → s < k → slice_get rules s ≡ Some rule → IsRuleLost rs n rule

@@ -1,0 +1,139 @@
+//! Many rules of one symbol, each with 64 nodes in its pattern.
+
+ghost use Rattle.std.specs.Prelude.{◌≡◌, ◌<◌};
+
+use super::{BOX, F, arithmetic, id, start, symbols};
+use crate::{Next, Probe};
+use dactl_decide::{Deciders, compile};
+use dactl_model::Memory;
+use dactl_model::footprint::{Attempt, Footprint};
+use dactl_model::graph::{Event, Label, NodeId};
+use dactl_model::program::{Body, Pat, Program, Rule};
+use dactl_model::reading::{Reading, Targets};
+use dactl_model::validity::is_valid;
+use sqlite_items::Items;
+use std::alloc::Global;
+use std::test::Fail;
+use std::time::Instant;
+
+/// How many rules there are beside the arithmetic ones, each in a group of its own.
+const RULES: u32 = 4096;
+
+/// `Box` over so many patterns, of which all but the first are `INT`.
+fn boxed(alloc: Global, first: Pat, count: u32) -> Result<Pat, Memory> {
+    let mut args = Items::new(alloc);
+    args.push(first)?;
+    for _ in 1..count {
+        args.push(Pat::Int)?;
+    }
+    Ok(Pat::Sym { symbol: BOX, args })
+}
+
+/// `F` over 15 boxes with three leaves each and one with two. The first leaf is the literal.
+fn pattern(alloc: Global, literal: i64) -> Result<Pat, Memory> {
+    let mut args = Items::new(alloc);
+    args.push(boxed(alloc, Pat::Literal(literal), 3)?)?;
+    for _ in 0..14 {
+        args.push(boxed(alloc, Pat::Int, 3)?)?;
+    }
+    args.push(boxed(alloc, Pat::Int, 2)?)?;
+    Ok(Pat::Sym { symbol: F, args })
+}
+
+/// Rule `5 + k` has the literal `k`.
+fn program(alloc: Global) -> Result<Program, Memory> {
+    let mut rules = arithmetic(alloc)?;
+    for number in 0..RULES {
+        rules.push(Rule {
+            symbol: F,
+            group: 5 + number,
+            variables: 0,
+            pattern: pattern(alloc, number as i64)?,
+            body: Body::Written {
+                fresh: Items::new(alloc),
+                moves: Items::new(alloc),
+                wakes: Items::new(alloc),
+            },
+        })?;
+    }
+    Ok(Program {
+        symbols: symbols(alloc)?,
+        rules,
+        start: start(alloc)?,
+    })
+}
+
+/// Sixteen nodes from this number on.
+fn nodes_from(first: u32) -> [NodeId; 16]
+    requires { first < 1000 }
+{
+    let mut nodes = [id(first); 16];
+    for place in 0..16u32 {
+        nodes[place as usize] = id(first + place);
+    }
+    nodes
+}
+
+/// What is read of a node of a graph with `F` at node 0, boxes at the nodes 1 to 16, and integers from
+/// node 100 on, of which the first is the literal and the others are 0.
+fn reading(node: NodeId, literal: i64) -> Reading
+    ensures { result.node ≡ node }
+{
+    let (label, count, first) = match node.number {
+        0 => (Label::Symbol(F), 16, 1),
+        number @ 1..=15 => (Label::Symbol(BOX), 3, 97 + 3 * number),
+        16 => (Label::Symbol(BOX), 2, 145),
+        100 => (Label::Integer(literal), 0, 0),
+        _ => (Label::Integer(0), 0, 0),
+    };
+    Reading {
+        node,
+        label,
+        targets: Targets {
+            count,
+            nodes: nodes_from(first),
+        },
+        version: 0,
+    }
+}
+
+/// The attempt of a probe of node 0 in that graph, if 64 readings suffice.
+fn attempt(alloc: Global, deciders: &Deciders, literal: i64) -> Result<Option<Attempt>, Memory> {
+    let room = Footprint::with_room(alloc, deciders.widest())?;
+    let mut probe = Probe::start(deciders, id(0), room);
+    for _ in 0..65 {
+        match probe.need() {
+            Next::Done => return Ok(Some(probe.attempt())),
+            Next::Need(node) => {
+                probe.step(reading(node, literal));
+            }
+        }
+    }
+    Ok(None)
+}
+
+/// Prints how long it took since then.
+fn print_time(rt: &HostRuntime, what: &str, begun: Instant) -> Result<(), Fail> {
+    let took = begun.elapsed(rt)?.as_micros();
+    println!(rt; "{what}: {took} microseconds")?;
+    Ok(())
+}
+
+/// The first leaf decides which rule fires, and then the other nodes of its pattern are read.
+#[test]
+fn many_rules_are_told_apart_by_a_leaf(rt: HostRuntime) -> Result<(), Fail> {
+    let program = program(rt.alloc())?;
+    assert!(rt; is_valid(&program));
+    let begun = Instant::now(&rt)?;
+    let deciders = compile(rt.alloc(), &program)?;
+    print_time(&rt, "4096 rules compiled", begun)?;
+    assert_eq!(rt; deciders.widest(), 64);
+    for (literal, rule) in [(0, 5), (2048, 2053), (4095, 4100)] {
+        let begun = Instant::now(&rt)?;
+        let found = attempt(rt.alloc(), &deciders, literal)?.ok_or("no attempt")?;
+        print_time(&rt, "64 nodes read", begun)?;
+        assert_eq!(rt; found.event, Event::Fire { node: id(0), rule });
+        assert_eq!(rt; found.footprint.readings().len(), 64);
+    }
+    Ok(())
+}
