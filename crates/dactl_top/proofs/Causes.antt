@@ -1,11 +1,10 @@
 -- What follows from the whole of an answer, for each answer.
 use Rattle.std.proofs.Common.{◌≡◌, ℕ, ◌⊎◌, List, Result, Ok, Err, IsErr, refl, sym, ◌∙◌, subst, inl, inr}
 use Rattle.std.specs.declared.option.Option.{Option}
-use Rattle.dactl_base.specs.Faults.{Rose}
 use Rattle.dactl_settings.specs.Reading.{settings_of}
 use Rattle.dactl_settings.specs.declared.settings.Settings.{Settings}
 use Rattle.dactl_top.specs.declared.status.Status.{Status}
-use Rattle.dactl_top.specs.declared.status.Status.TheVariants.{Normal, Checked, Budget, Usage, Refused, Full, ReadFault, WriteFault, Memory, TooLong, Small, NotBuilt}
+use Rattle.dactl_top.specs.declared.status.Status.TheVariants.{Normal, Checked, Budget, Usage, Refused, Full, ReadFault, WriteFault, Memory, TooLong, Small}
 use Rattle.dactl_settings.specs.declared.fault.UsageFault.{UsageFault}
 use Rattle.dactl_settings.specs.declared.fault.UsageFault.TheVariants as fault
 use Rattle.dactl_top.specs.Calls.{Call, IsEmpty, IsUnread, HasMemory, HasCause, IsAnswered}
@@ -19,15 +18,7 @@ cause_of call held held' faults faults' answer wanted answered other is =
       | inr cut ↦ absurd (other (sym is ∙ cut.0))
     ]
 
--- the sink failed by its own count
-pub fault_of : (call : Call) (held held' : Option (List ℕ)) (faults faults' : ℕ) (answer : Status) → IsAnswered call held held' faults faults' answer → answer ≡ WriteFault → Rose faults faults'
-fault_of call held held' faults faults' answer answered is =
-    elim answered.given [
-      | inl given ↦ let cause : HasCause call WriteFault = subst (HasCause call) (sym given.0 ∙ is) answered.cause in absurd cause
-      | inr cut ↦ cut.1.rose
-    ]
-
-no_settings : (call : Call) (s : Settings) → IsErr (settings_of call.words) → settings_of call.words ≡ Ok s → ⊥
+pub no_settings : (call : Call) (s : Settings) → IsErr (settings_of call.words) → settings_of call.words ≡ Ok s → ⊥
 no_settings call s fails is = let e = (rw is at fails) in cc
 
 -- where the words are no settings no other answer is wanted, but want of memory
@@ -39,7 +30,6 @@ usage_wanted call Checked fails cause = absurd (no_settings call cause.settings 
 usage_wanted call Budget fails cause = absurd (no_settings call cause.settings fails cause.has.words)
 usage_wanted call Full fails cause = absurd (no_settings call cause.settings fails cause.has.words)
 usage_wanted call Small fails cause = absurd (no_settings call cause.settings fails cause.has.words)
-usage_wanted call NotBuilt fails cause = absurd (no_settings call cause.settings fails cause.has.words)
 usage_wanted call Refused fails cause = absurd (no_settings call cause.settings fails cause.has.words)
 usage_wanted call ReadFault fails cause = absurd (no_settings call cause.settings fails cause.has.words)
 usage_wanted call TooLong fails cause = absurd (no_settings call cause.settings fails cause.has.words)

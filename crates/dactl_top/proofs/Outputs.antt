@@ -9,7 +9,7 @@ use Rattle.dactl_model.specs.declared.program.Program.{Program}
 use Rattle.dactl_settings.specs.declared.settings.Settings.{Settings}
 use Rattle.dactl_top.specs.declared.kept.Kept.{Kept}
 use Rattle.dactl_top.specs.declared.status.Status.{Status}
-use Rattle.dactl_top.specs.declared.status.Status.TheVariants.{Normal, Checked, Budget, Usage, Refused, Full, ReadFault, WriteFault, Memory, TooLong, Small, NotBuilt}
+use Rattle.dactl_top.specs.declared.status.Status.TheVariants.{Normal, Checked, Budget, Usage, Refused, Full, ReadFault, WriteFault, Memory, TooLong, Small}
 use Rattle.dactl_top.specs.Lines.{line_of, small_line, refused_line}
 use Rattle.dactl_top.specs.Running.{start_room}
 use Rattle.dactl_top.specs.Answering.{IsCutShort}
@@ -23,7 +23,6 @@ line_due ReadFault kept is = refl
 line_due Memory kept is = refl
 line_due TooLong kept is = refl
 line_due Checked kept is = refl
-line_due NotBuilt kept is = refl
 line_due Refused kept is = absurd is
 line_due Normal kept is = absurd is
 line_due Budget kept is = absurd is
@@ -37,7 +36,6 @@ due_line ReadFault kept due is e = e
 due_line Memory kept due is e = e
 due_line TooLong kept due is e = e
 due_line Checked kept due is e = e
-due_line NotBuilt kept due is e = e
 due_line Refused kept due is e = absurd is
 due_line Normal kept due is e = absurd is
 due_line Budget kept due is e = absurd is

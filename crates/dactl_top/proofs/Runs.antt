@@ -9,7 +9,6 @@ use Rattle.dactl_model.specs.declared.graph.Entry.{Entry}
 use Rattle.dactl_model.specs.declared.graph.End.{End}
 use Rattle.dactl_model.specs.declared.graph.End.TheVariants as end
 use Rattle.dactl_model.specs.declared.program.Program.{Program}
-use Rattle.dactl_model.specs.Programs.{IsValid}
 use Rattle.dactl_model.specs.Firing.{start_of}
 use Rattle.dactl_model.specs.Steps.{Reduction}
 use Rattle.dactl_model.proofs.KeptFire.{begins_well_formed}
@@ -56,7 +55,7 @@ same_settings : (kept : Kept) (s t : Settings) → kept.settings ≡ Some s → 
 same_settings kept s t first second = let e : Some s ≡ Some t = sym first ∙ second in cc
 
 -- each text that is due for the kept run is its output with a text of its last graph
-run_text : (s : Settings) (kept : Kept) (p : Program) (g : Graph) (ended : End) (due : List ℕ) → KeptRun s kept p g ended → IsRunText kept due → (text : List ℕ) × IsGraphText p g text × (due ≡ output s kept ended text)
+pub run_text : (s : Settings) (kept : Kept) (p : Program) (g : Graph) (ended : End) (due : List ℕ) → KeptRun s kept p g ended → IsRunText kept due → (text : List ℕ) × IsGraphText p g text × (due ≡ output s kept ended text)
 run_text s kept p g ended due k also =
     let same : also.program ≡ p = same_program kept also.program p also.is_program k.has.program in
     let e : Some also.ended ≡ Some ended = sym also.is_end ∙ k.is_end in

@@ -1,13 +1,13 @@
 -- What the taking of a text tells, with and without the sample text.
-use Rattle.std.proofs.Common.{◌≡◌, ℕ, List, Some, None, Ok, refl, sym, ◌∙◌, subst, ap}
+use Rattle.std.proofs.Common.{◌≡◌, ℕ, List, Some, None, Ok, refl, sym, ◌∙◌, ap}
 use Rattle.std.specs.declared.option.Option.{Option}
 use Rattle.dactl_settings.specs.Reading.{settings_of}
 use Rattle.dactl_settings.specs.declared.settings.Settings.{Settings}
 use Rattle.dactl_top.specs.declared.input.Input.TheVariants as input
 use Rattle.dactl_top.specs.declared.status.Status.{Status}
-use Rattle.dactl_top.specs.declared.status.Status.TheVariants.{Normal, Checked, Budget, Usage, Refused, Full, ReadFault, WriteFault, Memory, TooLong, Small, NotBuilt}
+use Rattle.dactl_top.specs.declared.status.Status.TheVariants.{Normal, Checked, Budget, Usage, Refused, Full, ReadFault, WriteFault, Memory, TooLong, Small}
 use Rattle.dactl_top.specs.Input.{IsFailedText, IsLongText, HasTaken}
-use Rattle.dactl_top.specs.Calls.{Call, HasSettings, HasNoMemory, HasMemory, HasText, IsText, IsUnread, IsKept, HasCause}
+use Rattle.dactl_top.specs.Calls.{Call, HasSettings, HasNoMemory, HasMemory, IsText, IsUnread, IsKept, HasCause}
 
 pub failed_taken : (sample : Option ℕ) (left left' : Option (List ℕ)) (faults faults' : ℕ) (text : List ℕ) → HasTaken sample left left' faults faults' text input.Failed → (sample ≡ None) × IsFailedText left left' faults faults' text
 failed_taken None left left' faults faults' text taken = (refl, taken)
@@ -42,7 +42,6 @@ text_cause call s Checked has text kept = record { settings = s; has = has; text
 text_cause call s Budget has text kept = record { settings = s; has = has; text = text; kept = kept }
 text_cause call s Full has text kept = record { settings = s; has = has; text = text; kept = kept }
 text_cause call s Small has text kept = record { settings = s; has = has; text = text; kept = kept }
-text_cause call s NotBuilt has text kept = record { settings = s; has = has; text = text; kept = kept }
 text_cause call s Refused has text kept = record { settings = s; has = has; text = text; kept = kept }
 text_cause call s Memory has text kept = record { kept = kept; unread = λ t count also sample. unread_text call s.sample count text (sym (ap (λ x. x.sample) (one_of call.words s t has.words also)) ∙ sample) }
 text_cause call s Usage has text kept = absurd kept

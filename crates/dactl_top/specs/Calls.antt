@@ -1,5 +1,5 @@
 -- Why a call answers as it does, and what it leaves.
-use Rattle.std.specs.Prelude.{◌≡◌, ℕ, ◌*◌, ◌<◌, ◌≤◌, ◌⊎◌, Bool, true, false, List, [], ◌++◌, length, Some, None, Result, Ok, Err, IsErr}
+use Rattle.std.specs.Prelude.{◌≡◌, ℕ, ◌*◌, ◌⊎◌, Bool, true, false, List, [], ◌++◌, length, Some, None, Ok, IsErr}
 use Rattle.std.specs.declared.option.Option.{Option}
 use Rattle.std.specs.Io.KnownBytes.{Appends}
 use Rattle.dactl_base.specs.Bytes.{AppendsFront}
@@ -23,8 +23,8 @@ use Rattle.dactl_settings.specs.declared.settings.Settings.{Settings}
 use Rattle.dactl_settings.specs.Reading.{settings_of}
 use Rattle.dactl_top.specs.declared.kept.Kept.{Kept}
 use Rattle.dactl_top.specs.declared.status.Status.{Status}
-use Rattle.dactl_top.specs.declared.status.Status.TheVariants.{Normal, Checked, Budget, Usage, Refused, Full, ReadFault, WriteFault, Memory, TooLong, Small, NotBuilt}
-use Rattle.dactl_top.specs.Compiling.{IsNamed, IsFaultOf}
+use Rattle.dactl_top.specs.declared.status.Status.TheVariants.{Normal, Checked, Budget, Usage, Refused, Full, ReadFault, WriteFault, Memory, TooLong, Small}
+use Rattle.dactl_top.specs.Compiling.{MeansProgram, MeansFault}
 use Rattle.dactl_top.specs.Input.{IsWholeText, IsLongText, IsFailedText}
 use Rattle.dactl_top.specs.Lines.{line_of, small_line, refused_line}
 use Rattle.dactl_top.specs.Running.{IsRun, IsTooSmall, start_room}
@@ -47,6 +47,10 @@ pub record Call : Type 0 where
   pub faults_after : ℕ
   pub kept : Kept
 
+-- a call, from its parts
+abbrev pub call_of : List (List ℕ) → Option (List ℕ) → Option (List ℕ) → ℕ → ℕ → Kept → Call
+call_of words left left' faults faults' kept = record { words = words; left = left; left_after = left'; faults = faults; faults_after = faults'; kept = kept }
+
 -- ---- what is kept
 
 -- no run is kept
@@ -60,25 +64,20 @@ pub record HasNothing (kept : Kept) : Type 0 where
   pub program : kept.program ≡ None
   pub none : HasNoRun kept
 
--- a program is kept that the kept text was read as; no names of the text have a fault
+-- the program is kept, and it is what the kept text means
 pub record HasProgram (kept : Kept) (p : Program) : Type 0 where
   pub refusal : kept.refusal ≡ None
   pub program : kept.program ≡ Some p
-  pub means : IsNamed kept.text.items
+  pub means : MeansProgram kept.text.items p
   pub valid : IsValid p
 
 -- the first fault of the kept text is kept
 pub record HasRefusal (kept : Kept) : Type 0 where
   pub fault : Refusal
   pub refusal : kept.refusal ≡ Some fault
-  pub is_first : IsFaultOf kept.text.items fault
+  pub means : MeansFault kept.text.items fault
   pub program : kept.program ≡ None
   pub none : HasNoRun kept
-
--- the names of the kept text have no fault, and it goes beyond what is built
-pub record HasNotBuilt (kept : Kept) : Type 0 where
-  pub named : IsNamed kept.text.items
-  pub nothing : HasNothing kept
 
 -- the limits of a run: so many nodes, four arcs for each, and the budget of entries
 abbrev pub limits_of : Settings → Limits
@@ -121,7 +120,7 @@ pub record HasFullRun (s : Settings) (kept : Kept) : Type 0 where
 pub record HasNoMemory (kept : Kept) : Type 0 where
   pub none : HasNoRun kept
   pub refusal : kept.refusal ≡ None
-  pub program : (p : Program) → kept.program ≡ Some p → IsNamed kept.text.items
+  pub program : (p : Program) → kept.program ≡ Some p → MeansProgram kept.text.items p
 
 -- the answer that tells an end
 abbrev pub IsStatusOf : End → Status → Type 0
@@ -137,7 +136,6 @@ IsKept s kept Budget = HasRun s kept end.Budget
 IsKept s kept Full = HasFullRun s kept
 IsKept s kept Small = HasSmall s kept
 IsKept s kept Refused = HasRefusal kept
-IsKept s kept NotBuilt = HasNotBuilt kept
 IsKept s kept Memory = HasNoMemory kept
 IsKept s kept Usage = ⊥
 IsKept s kept ReadFault = ⊥
@@ -203,7 +201,6 @@ HasCause call Budget = HasText call Budget
 HasCause call Full = HasText call Full
 HasCause call Small = HasText call Small
 HasCause call Refused = HasText call Refused
-HasCause call NotBuilt = HasText call NotBuilt
 HasCause call Usage = HasUsage call
 HasCause call ReadFault = HasReadFault call
 HasCause call TooLong = HasLongText call
@@ -251,7 +248,6 @@ IsDue kept ReadFault due = due ≡ line_of ReadFault
 IsDue kept Memory due = due ≡ line_of Memory
 IsDue kept TooLong due = due ≡ line_of TooLong
 IsDue kept Checked due = due ≡ line_of Checked
-IsDue kept NotBuilt due = due ≡ line_of NotBuilt
 IsDue kept Refused due = IsRefusedLine kept due
 IsDue kept Small due = IsSmallLine kept due
 IsDue kept Normal due = IsRunText kept due
@@ -266,7 +262,6 @@ IsLine ReadFault = Unit {0}
 IsLine Memory = Unit {0}
 IsLine TooLong = Unit {0}
 IsLine Checked = Unit {0}
-IsLine NotBuilt = Unit {0}
 IsLine Refused = ⊥
 IsLine Normal = ⊥
 IsLine Budget = ⊥

@@ -1,8 +1,9 @@
--- What is found of the bytes of a text: that its names have no fault, or the first fault.
+-- What the bytes of a text mean: a program, or the first fault.
 use Rattle.std.specs.Prelude.{◌≡◌, ℕ, ◌⊎◌, List, Result, Ok, Err}
 use Rattle.dactl_base.specs.declared.refusal.Refusal.{Refusal}
 use Rattle.dactl_base.specs.declared.refusal.TextFault.{TextFault}
 use Rattle.dactl_base.specs.declared.refusal.TextFault.TheVariants as faults
+use Rattle.dactl_model.specs.declared.program.Program.{Program}
 use Rattle.dactl_tokens.specs.declared.token.Token.{Token}
 use Rattle.dactl_tokens.specs.Lexes.{Lexes}
 use Rattle.dactl_tokens.specs.Answer as tokens
@@ -10,13 +11,14 @@ use Rattle.dactl_syntax.specs.declared.tree.Text.{Text}
 use Rattle.dactl_syntax.specs.Answer as grammar
 use Rattle.dactl_syntax.specs.Laws.{Reads}
 use Rattle.dactl_syntax.specs.Faults.{NoFault, IsLeastFault}
-use Rattle.dactl_syntax.specs.ScopeFaults.{ScopeFault}
+use Rattle.dactl_syntax.specs.Meaning.{TreeFault, program_of}
 
--- the bytes read a tree whose names have no fault
-pub record IsNamed (bytes : List ℕ) : Type 0 where
+-- the bytes read a tree that has no fault, and the program is the tree's
+pub record IsProgramOf (bytes : List ℕ) (p : Program) : Type 0 where
   pub tree : Text
   pub reads : Reads bytes tree
-  pub faultless : NoFault (ScopeFault tree)
+  pub faultless : NoFault (TreeFault tree)
+  pub program : p ≡ program_of tree
 
 -- the bytes are gaps and tokens, and the first fault of the grammar is this one
 pub record IsGrammarFault (bytes : List ℕ) (r : Refusal) : Type 0 where
@@ -24,18 +26,30 @@ pub record IsGrammarFault (bytes : List ℕ) (r : Refusal) : Type 0 where
   pub lexes : Lexes bytes tokens
   pub first : grammar.IsFirstFault bytes tokens r
 
--- the bytes read a tree, and the least fault of its names is this one
-pub record IsNameFault (bytes : List ℕ) (r : Refusal) : Type 0 where
+-- the bytes read a tree, and its least fault is this one
+pub record IsMeaningFault (bytes : List ℕ) (r : Refusal) : Type 0 where
   pub tree : Text
   pub reads : Reads bytes tree
-  pub least : IsLeastFault (ScopeFault tree) r
+  pub least : IsLeastFault (TreeFault tree) r
 
--- the first fault of a text: of its tokens, of its grammar, or of its names
+-- the first fault of a text: of its tokens, of its grammar, or of its tree
 abbrev pub IsFaultOf : List ℕ → Refusal → Type 0
-IsFaultOf bytes r = tokens.IsFirstFault bytes r ⊎ (IsGrammarFault bytes r ⊎ IsNameFault bytes r)
+IsFaultOf bytes r = tokens.IsFirstFault bytes r ⊎ (IsGrammarFault bytes r ⊎ IsMeaningFault bytes r)
+
+-- the text means this program, and no other, and it has no fault
+pub record MeansProgram (bytes : List ℕ) (p : Program) : Type 0 where
+  pub is : IsProgramOf bytes p
+  pub only : (q : Program) → IsProgramOf bytes q → p ≡ q
+  pub faultless : NoFault (IsFaultOf bytes)
+
+-- the text has this first fault, and no other, and it means no program
+pub record MeansFault (bytes : List ℕ) (r : Refusal) : Type 0 where
+  pub is : IsFaultOf bytes r
+  pub only : (other : Refusal) → IsFaultOf bytes other → r ≡ other
+  pub none : (p : Program) → ¬ IsProgramOf bytes p
 
 -- what is answered for a text, memory aside
-abbrev pub Checks : {A : Type 0} → List ℕ → Result A TextFault → Type 0
-Checks bytes (Ok a) = IsNamed bytes
-Checks bytes (Err (faults.Refused r)) = IsFaultOf bytes r
-Checks bytes (Err faults.Memory) = Unit {0}
+abbrev pub Compiles : List ℕ → Result Program TextFault → Type 0
+Compiles bytes (Ok p) = MeansProgram bytes p
+Compiles bytes (Err (faults.Refused r)) = MeansFault bytes r
+Compiles bytes (Err faults.Memory) = Unit {0}

@@ -4,3 +4,6 @@ pub mod Answering
 pub mod Running
 pub mod Compiling
 pub mod Calls
+pub mod Headline
+pub mod Exact
+pub mod Reasons

@@ -5,7 +5,7 @@ use Rattle.dactl_base.specs.declared.refusal.Kind.TheVariants as kinds
 use Rattle.dactl_base.specs.declared.refusal.Refusal.{Refusal}
 use Rattle.dactl_model.specs.declared.graph.Room.{Room}
 use Rattle.dactl_top.specs.declared.status.Status.{Status}
-use Rattle.dactl_top.specs.declared.status.Status.TheVariants.{Normal, Checked, Budget, Usage, Refused, Full, ReadFault, WriteFault, Memory, TooLong, Small, NotBuilt}
+use Rattle.dactl_top.specs.declared.status.Status.TheVariants.{Normal, Checked, Budget, Usage, Refused, Full, ReadFault, WriteFault, Memory, TooLong, Small}
 
 -- what the process ends with
 abbrev pub code_of : Status → ℕ
@@ -20,7 +20,6 @@ code_of WriteFault = 6
 code_of Memory = 7
 code_of TooLong = 8
 code_of Small = 9
-code_of NotBuilt = 10
 
 -- the whole output of an answer that is one line, told alike whatever was read
 abbrev pub line_of : Status → List ℕ
@@ -35,7 +34,6 @@ line_of WriteFault = []
 line_of Memory = codes "memory\n"
 line_of TooLong = codes "too long\n"
 line_of Small = []
-line_of NotBuilt = codes "not built\n"
 
 -- the line that tells what the first graph needs
 abbrev pub small_line : Room → List ℕ

@@ -36,8 +36,9 @@ abbrev pub IsTurn : Program → Limits → Graph → NodeId → Turn → Type 0
 IsTurn p limits g n (Moved e g') = Step p g e g' × IsWithin limits g'
 IsTurn p limits g n (Full r needed left) = IsFull p limits g n r needed left
 
--- the journal leads from the first graph to the last, and the run ends as it says
+-- the first graph fits, the journal leads from it to the last, and the run ends as it says
 pub record IsRun (p : Program) (limits : Limits) (journal : List Entry) (g : Graph) (end : End) : Type 0 where
+  pub fits : IsWithin limits (start_of p.start)
   pub reduction : Reduction p (start_of p.start) journal g
   pub ends : Ends p limits journal g end
   pub worker : All (λ entry. entry.worker ≡ 1) journal

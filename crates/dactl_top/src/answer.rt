@@ -26,7 +26,6 @@ fn line(status: Status) -> &'static [u8]
         Status::Memory => b"memory\n",
         Status::TooLong => b"too long\n",
         Status::Checked => b"ok\n",
-        Status::NotBuilt => b"not built\n",
         _ => b"",
     }
 }

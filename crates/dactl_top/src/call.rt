@@ -1,19 +1,20 @@
 //! The top call.
 
-ghost use Rattle.std.specs.Prelude.{◌≡◌, ◌≤◌, ◌<◌, ◌⊎◌, ℕ, List, length, map, Some, IsErr, Ok, false};
+ghost use Rattle.std.specs.Prelude.{◌≡◌, ◌≤◌, ℕ, List, length, map, Some, Ok, false};
 ghost use Rattle.std.specs.String.{string_bytes};
-ghost use Rattle.dactl_base.specs.Faults.{Rose};
 ghost use Rattle.dactl_model.specs.Programs.{IsValid};
 ghost use Rattle.dactl_settings.specs.Reading.{settings_of};
 ghost use Rattle.dactl_settings.specs.Limits.{IsWithinLimits};
-ghost use Rattle.dactl_settings.specs.declared.settings.Settings as setting;
-ghost use Rattle.dactl_top.specs.Calls.{IsEmpty, HasNothing, HasText, IsStatusOf, IsTextAnswered, IsAnswered, limits_of};
-ghost use Rattle.dactl_top.specs.Compiling.{IsNamed, IsFaultOf};
+ghost use Rattle.dactl_top.specs.Calls.{IsEmpty, HasNothing, IsStatusOf, IsTextAnswered, IsAnswered, IsWhole, call_of, limits_of};
+ghost use Rattle.dactl_top.specs.Compiling.{MeansProgram, MeansFault};
+ghost use Rattle.dactl_top.specs.Exact.{IsOfText, IsExact};
+ghost use Rattle.dactl_top.specs.Headline.{IsOfRun, IsRunOfText};
 ghost use Rattle.dactl_top.specs.Input.{longest};
+ghost use Rattle.dactl_top.specs.Reasons.{IsCaused, IsCutOff, KeepsFaith};
 ghost use Rattle.dactl_top.specs.Running.{IsTooSmall, IsFinished};
 
 use crate::answer::{give_line, write_line};
-use crate::compile::names;
+use crate::compile::compile;
 use crate::input::{Input, take_text};
 use crate::kept::Kept;
 use crate::lines::{refused_line, small_line};
@@ -23,7 +24,6 @@ use crate::status::Status;
 use dactl_base::refusal::{Refusal, TextFault};
 use dactl_base::sink::Sink;
 use dactl_base::source::Source;
-use dactl_first::{FirstFault, parse_first};
 use dactl_model::graph::{End, Limits, Room};
 use dactl_model::program::Program;
 use dactl_print::printer::Numbering;
@@ -60,7 +60,7 @@ fn answer_refused<K: Sink>(
     refusal: Refusal,
     kept: &mut Kept,
 ) -> Status
-    requires fault { IsFaultOf kept.old.text.items refusal }
+    requires fault { MeansFault kept.old.text.items refusal }
     requires none { HasNothing kept.old }
     ensures answered { IsTextAnswered settings kept.new (K.holds sink.old) (K.holds sink.new) (K.faults sink.old) (K.faults sink.new) result }
     ensures text { kept.new.text ≡ kept.old.text }
@@ -86,7 +86,7 @@ fn answer_small<K: Sink>(
     kept: &mut Kept,
 ) -> Status
     requires check { settings.check ≡ false }
-    requires means { IsNamed kept.old.text.items }
+    requires means { MeansProgram kept.old.text.items program }
     requires valid { IsValid program }
     requires small { IsTooSmall (limits_of settings) program needed }
     requires none { HasNothing kept.old }
@@ -115,7 +115,7 @@ fn answer_run<K: Sink>(
 ) -> Status
     requires limits { IsWithinLimits settings }
     requires check { settings.check ≡ false }
-    requires means { IsNamed kept.old.text.items }
+    requires means { MeansProgram kept.old.text.items program }
     requires valid { IsValid program }
     requires finished { IsFinished program (limits_of settings) finished }
     requires none { HasNothing kept.old }
@@ -161,7 +161,7 @@ fn answer_program<K: Sink>(
     kept: &mut Kept,
 ) -> Status
     requires limits { IsWithinLimits settings }
-    requires means { IsNamed kept.old.text.items }
+    requires means { MeansProgram kept.old.text.items program }
     requires valid { IsValid program }
     requires none { HasNothing kept.old }
     requires settings { kept.old.settings ≡ Some settings }
@@ -180,23 +180,6 @@ fn answer_program<K: Sink>(
     }
 }
 
-// Answers to a text whose names have no fault.
-fn answer_named<K: Sink>(alloc: Global, settings: Settings, sink: &mut K, kept: &mut Kept) -> Status
-    requires limits { IsWithinLimits settings }
-    requires means { IsNamed kept.old.text.items }
-    requires none { HasNothing kept.old }
-    requires settings { kept.old.settings ≡ Some settings }
-    ensures answered { IsTextAnswered settings kept.new (K.holds sink.old) (K.holds sink.new) (K.faults sink.old) (K.faults sink.new) result }
-    ensures text { kept.new.text ≡ kept.old.text }
-    ensures settings { kept.new.settings ≡ kept.old.settings }
-{
-    match parse_first(alloc, kept.text.as_slice()) {
-        Ok(program) => answer_program(alloc, settings, sink, program, kept),
-        Err(FirstFault::NotBuilt) => give_line(sink, Status::NotBuilt),
-        Err(FirstFault::Memory) => give_line(sink, Status::Memory),
-    }
-}
-
 // Answers to a text that is there whole.
 fn answer_text<K: Sink>(alloc: Global, settings: Settings, sink: &mut K, kept: &mut Kept) -> Status
     requires limits { IsWithinLimits settings }
@@ -207,8 +190,8 @@ fn answer_text<K: Sink>(alloc: Global, settings: Settings, sink: &mut K, kept: &
     ensures text { kept.new.text ≡ kept.old.text }
     ensures settings { kept.new.settings ≡ kept.old.settings }
 {
-    match names(alloc, kept.text.as_slice()) {
-        Ok(()) => answer_named(alloc, settings, sink, kept),
+    match compile(alloc, kept.text.as_slice()) {
+        Ok(program) => answer_program(alloc, settings, sink, program, kept),
         Err(TextFault::Refused(refusal)) => answer_refused(alloc, settings, sink, refusal, kept),
         Err(TextFault::Memory) => give_line(sink, Status::Memory),
     }
@@ -224,14 +207,7 @@ fn answer_settings<S: Source, K: Sink>(
 ) -> Status
     requires limits { IsWithinLimits settings }
     requires empty { IsEmpty kept.old }
-    ensures { (words : List (List ℕ)) → settings_of words ≡ Ok settings → IsAnswered (record {
-      words = words;
-      left = S.left source.old;
-      left_after = S.left source.new;
-      faults = S.faults source.old;
-      faults_after = S.faults source.new;
-      kept = kept.new;
-    }) (K.holds sink.old) (K.holds sink.new) (K.faults sink.old) (K.faults sink.new) result }
+    ensures { (words : List (List ℕ)) → settings_of words ≡ Ok settings → IsAnswered (call_of words (S.left source.old) (S.left source.new) (S.faults source.old) (S.faults source.new) kept.new) (K.holds sink.old) (K.holds sink.new) (K.faults sink.old) (K.faults sink.new) result }
 {
     kept.settings = Some(settings);
     match take_text(alloc, settings, source, &mut kept.text) {
@@ -251,14 +227,7 @@ fn answer<S: Source, K: Sink>(
     kept: &mut Kept,
 ) -> Status
     requires { IsEmpty kept.old }
-    ensures { IsAnswered (record {
-      words = map string_bytes words.now;
-      left = S.left source.old;
-      left_after = S.left source.new;
-      faults = S.faults source.old;
-      faults_after = S.faults source.new;
-      kept = kept.new;
-    }) (K.holds sink.old) (K.holds sink.new) (K.faults sink.old) (K.faults sink.new) result }
+    ensures { IsAnswered (call_of (map string_bytes words.now) (S.left source.old) (S.left source.new) (S.faults source.old) (S.faults source.new) kept.new) (K.holds sink.old) (K.holds sink.new) (K.faults sink.old) (K.faults sink.new) result }
 {
     match read_settings(alloc, words) {
         Ok(settings) => answer_settings(alloc, settings, source, sink, kept),
@@ -279,21 +248,17 @@ pub fn dactl<S: Source, K: Sink>(
     kept: &mut Kept,
 ) -> Status
     requires { IsEmpty kept.old }
-    ensures answered { IsAnswered (record {
-      words = map string_bytes words.now;
-      left = S.left source.old;
-      left_after = S.left source.new;
-      faults = S.faults source.old;
-      faults_after = S.faults source.new;
-      kept = kept.new;
-    }) (K.holds sink.old) (K.holds sink.new) (K.faults sink.old) (K.faults sink.new) result }
+    ensures answered { IsAnswered (call_of (map string_bytes words.now) (S.left source.old) (S.left source.new) (S.faults source.old) (S.faults source.new) kept.new) (K.holds sink.old) (K.holds sink.new) (K.faults sink.old) (K.faults sink.new) result }
 
-    // What follows from it, answer by answer.
-    ensures usage { result ≡ Status.Usage → IsErr (settings_of (map string_bytes words.now)) }
-    ensures only_usage { IsErr (settings_of (map string_bytes words.now)) → (result ≡ Status.Usage) ⊎ ((result ≡ Status.WriteFault) ⊎ (result ≡ Status.Memory)) }
-    ensures read_fault { result ≡ Status.ReadFault → Rose (S.faults source.old) (S.faults source.new) }
-    ensures write_fault { result ≡ Status.WriteFault → Rose (K.faults sink.old) (K.faults sink.new) }
-    ensures too_long { result ≡ Status.TooLong → longest < length kept.new.text.items }
+    // What follows from it: the headline, and why each answer comes.
+    ensures headline { IsOfRun result → IsRunOfText (call_of (map string_bytes words.now) (S.left source.old) (S.left source.new) (S.faults source.old) (S.faults source.new) kept.new) (K.holds sink.old) (K.holds sink.new) result }
+    ensures exact { IsOfText result → IsExact (call_of (map string_bytes words.now) (S.left source.old) (S.left source.new) (S.faults source.old) (S.faults source.new) kept.new) result }
+    ensures caused { IsCaused (call_of (map string_bytes words.now) (S.left source.old) (S.left source.new) (S.faults source.old) (S.faults source.new) kept.new) result }
+
+    // What is kept and what is written.
+    ensures keeps { KeepsFaith (call_of (map string_bytes words.now) (S.left source.old) (S.left source.new) (S.faults source.old) (S.faults source.new) kept.new) result }
+    ensures cut_off { result ≡ Status.WriteFault → IsCutOff (call_of (map string_bytes words.now) (S.left source.old) (S.left source.new) (S.faults source.old) (S.faults source.new) kept.new) (K.holds sink.old) (K.holds sink.new) (K.faults sink.old) (K.faults sink.new) }
+    ensures written { ¬ (result ≡ Status.WriteFault) → IsWhole kept.new (K.holds sink.old) (K.holds sink.new) result }
 {
     answer(alloc, words, source, sink, kept)
 }

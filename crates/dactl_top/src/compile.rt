@@ -1,23 +1,27 @@
-//! The bytes of a text up to their names.
+//! From the bytes of a text to its program.
 
-ghost use Rattle.std.specs.Prelude.{◌≤◌, length};
-ghost use Rattle.dactl_top.specs.Compiling.{Checks};
+ghost use Rattle.std.specs.Prelude.{◌≤◌, IfOk, length};
+ghost use Rattle.dactl_model.specs.Programs.{IsValid};
+ghost use Rattle.dactl_top.specs.Compiling.{Compiles};
 
 use dactl_base::refusal::TextFault;
+use dactl_model::program::Program;
+use dactl_rules::program;
 use dactl_symbols::scope;
 use dactl_syntax::parse;
 use dactl_tokens::tokens;
 use std::alloc::Global;
 
-/// The first fault of a text in tokens, grammar and names, if there is one.
-pub fn names(alloc: Global, text: &[u8]) -> Result<(), TextFault>
+/// The program of a text, or its first fault.
+pub fn compile(alloc: Global, text: &[u8]) -> Result<Program, TextFault>
     requires { length text.now ≤ 1048576 }
-    ensures { Checks text.now result }
+    ensures answer { Compiles text.now result }
+    ensures valid { IfOk result IsValid }
 {
     let found = tokens(alloc, text)?;
     let tree = parse(alloc, text, found.as_slice())?;
     match scope(alloc, &tree) {
-        Ok(_scopes) => Ok(()),
+        Ok(scopes) => program(alloc, &tree, &scopes),
         Err(fault) => Err(fault),
     }
 }

@@ -1,6 +1,5 @@
 //! What a call keeps for its caller.
 
-ghost use Rattle.std.specs.Prelude.{◌≡◌, [], None};
 ghost use Rattle.dactl_top.specs.Calls.{IsEmpty};
 
 use dactl_base::refusal::Refusal;

@@ -15,4 +15,18 @@ pub mod status;
 pub use call::dactl;
 
 #[cfg(test)]
-mod tests;
+mod device_tests;
+#[cfg(test)]
+mod example_tests;
+#[cfg(test)]
+mod limit_tests;
+#[cfg(test)]
+mod refusal_tests;
+#[cfg(test)]
+mod run_tests;
+#[cfg(test)]
+mod store_tests;
+#[cfg(test)]
+mod syntax_tests;
+#[cfg(test)]
+mod testing;

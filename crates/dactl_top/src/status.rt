@@ -28,9 +28,6 @@ pub enum Status {
     TooLong,
     /// The first graph does not fit the room.
     Small,
-    /// The names of the text have no fault, and it goes beyond what is built. It goes when the whole
-    /// language stands.
-    NotBuilt,
 }
 
 impl Status {
@@ -50,7 +47,6 @@ impl Status {
             Status::Memory => 7,
             Status::TooLong => 8,
             Status::Small => 9,
-            Status::NotBuilt => 10,
         }
     }
 }

@@ -9,10 +9,10 @@ returns-in_default-clause-answered g c = record { wanted = Memory; cause = nothi
 
 pub returns-in-Ok-write_line-clause-answered : goal.returns-in-Ok-write_line-clause-answered
 returns-in-Ok-write_line-clause-answered g c =
-    refused_given _ _ _ _ _ _ _ (record { fault = c.args.refusal; refusal = refl; is_first = c.requires.fault; program = c.requires.none.program; none = record { journal = c.requires.none.none.journal; end = c.requires.none.none.end } })
+    refused_given _ _ _ _ _ _ _ (record { fault = c.args.refusal; refusal = refl; means = c.requires.fault; program = c.requires.none.program; none = record { journal = c.requires.none.none.journal; end = c.requires.none.none.end } })
     (c.as_slice.ensures.value ∙ c.in-Ok.ensures) c.in-Ok-write_line.ensures.whole
 
 pub returns-clause-answered : goal.returns-clause-answered
 returns-clause-answered g c =
-    refused_cut _ _ _ _ _ _ _ (record { fault = c.args.refusal; refusal = refl; is_first = c.requires.fault; program = c.requires.none.program; none = record { journal = c.requires.none.none.journal; end = c.requires.none.none.end } })
+    refused_cut _ _ _ _ _ _ _ (record { fault = c.args.refusal; refusal = refl; means = c.requires.fault; program = c.requires.none.program; none = record { journal = c.requires.none.none.journal; end = c.requires.none.none.end } })
     (c.as_slice.ensures.value ∙ c.in-Ok.ensures) c.in-Err.ensures.cut

@@ -1,8 +1,7 @@
-use Rattle.std.proofs.Common.{◌≡◌, ℕ, List, ◌++◌, refl, ap, subst, length, ◌∙◌}
-use Rattle.dactl_print.specs.Texts.{end_line}
+use Rattle.std.proofs.Common.{refl, ap, length}
 use Rattle.dactl_top.specs.declared.status.Status.TheVariants.{Memory}
 use Rattle.dactl_top.proofs.Keeping.{nothing_wanted, program_kept}
-use Rattle.dactl_top.proofs.Runs.{KeptRun, run_given, run_cut, told_whole, told_front}
+use Rattle.dactl_top.proofs.Runs.{run_given, run_cut, told_whole, told_front}
 use Rattle.dactl_top.proofs.call.answer_run.Goals as goal
 
 pub returns-in_default-clause-answered : goal.returns-in_default-clause-answered

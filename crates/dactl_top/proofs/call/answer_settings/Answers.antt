@@ -1,7 +1,7 @@
-use Rattle.std.proofs.Common.{refl, sym, subst}
+use Rattle.std.proofs.Common.{Some, refl}
 use Rattle.dactl_top.specs.declared.status.Status.TheVariants.{ReadFault, TooLong, Memory}
 use Rattle.dactl_top.proofs.Keeping.{nothing_wanted}
-use Rattle.dactl_top.proofs.Taking.{failed_taken, long_taken, short_taken, whole_taken, text_cause}
+use Rattle.dactl_top.proofs.Taking.{failed_taken, long_taken, short_taken}
 use Rattle.dactl_top.proofs.call.answer_settings.Goals as goal
 
 pub returns-in-Failed : goal.returns-in-Failed
@@ -11,7 +11,7 @@ returns-in-Failed g c = λ words is.
       wanted = ReadFault;
       cause = record {
         settings = c.args.settings;
-        has = record { words = is; kept = refl };
+        has = record { words = is; kept = refl {a = Some c.args.settings} };
         no_sample = taken.0;
         text = taken.1;
         none = record { refusal = empty.refusal; program = empty.program; none = record { journal = empty.journal; end = empty.end } };
@@ -26,7 +26,7 @@ returns-in-TooLong g c = λ words is.
       wanted = TooLong;
       cause = record {
         settings = c.args.settings;
-        has = record { words = is; kept = refl };
+        has = record { words = is; kept = refl {a = Some c.args.settings} };
         no_sample = taken.0;
         text = taken.1;
         none = record { refusal = empty.refusal; program = empty.program; none = record { journal = empty.journal; end = empty.end } };

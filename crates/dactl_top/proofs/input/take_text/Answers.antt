@@ -1,4 +1,4 @@
-use Rattle.std.proofs.Common.{refl, subst, sym}
+use Rattle.std.proofs.Common.{refl}
 use Rattle.dactl_sample.proofs.Lengths.{sample_short}
 use Rattle.dactl_top.proofs.input.take_text.Goals as goal
 

@@ -3,7 +3,7 @@ use Rattle.dactl_print.specs.Texts.{end_line}
 use Rattle.dactl_print.proofs.Pieces.{prints_then}
 use Rattle.dactl_print.proofs.OneOrder.{has_one_text}
 use Rattle.dactl_top.specs.Calls.{trace_if}
-use Rattle.dactl_top.proofs.Written.{writes_all, writes_front, writes_some, writes_same, rose_of}
+use Rattle.dactl_top.proofs.Written.{writes_all, writes_front, writes_some, writes_same}
 use Rattle.dactl_top.proofs.output.write_run.Goals as goal
 
 pub returns-in_err-show_end-clause-written : goal.returns-in_err-show_end-clause-written
