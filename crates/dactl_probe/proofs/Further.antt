@@ -17,6 +17,7 @@ use Rattle.dactl_model.proofs.Induction.{Each, pat_induction}
 use Rattle.dactl_model.proofs.Told.{told_roll}
 use Rattle.dactl_model.proofs.Unique.{left_true, right_true}
 use Rattle.dactl_probe.specs.Bindings.{is_first}
+use Rattle.dactl_probe.specs.declared.lost.Lost.{Lost}
 use Rattle.dactl_probe.specs.Lost.{IsRuleLost, AreLost}
 use Rattle.dactl_probe.proofs.Pairs.{first_from_agreed, agreed_from_first}
 use Rattle.dactl_probe.proofs.Traced.{read_more}
@@ -177,5 +178,5 @@ module _ (rs more : List Reading) where
   lost_more n rule (inl fails) = inl ((kept rule.pattern n).value.no fails)
   lost_more n rule (inr conflict) = inr (conflict_stays (told rs rule.pattern n).pairs (told (rs ++ more) rule.pattern n).pairs ((kept rule.pattern n).pairs) conflict)
 
-  pub all_lost_more : (rules : List Rule) (n : NodeId) (k : ℕ) → AreLost rules rs n k → AreLost rules (rs ++ more) n k
-  all_lost_more rules n k lost s rule below is = lost_more n rule (lost s rule below is)
+  pub all_lost_more : (rules : List Rule) (n : NodeId) (lost : Lost) → AreLost rules rs n lost → AreLost rules (rs ++ more) n lost
+  all_lost_more rules n lost are s rule known is = lost_more n rule (are s rule known is)

@@ -5,3 +5,4 @@ pub mod Decided
 pub mod Traced
 pub mod Further
 pub mod Passing
+pub mod Marking

@@ -1,5 +1,5 @@
 -- What is lost is No, and is passed over.
-use Rattle.std.proofs.Common.{◌≡◌, ℕ, ◌+◌, ◌<◌, List, take, length, get_or, sym, ◌∙◌, ap, subst, arith, slice_get, Some, All, AllPairs, inl, inr}
+use Rattle.std.proofs.Common.{◌≡◌, ℕ, ◌+◌, ◌-◌, ◌<◌, ◌≤◌, ◌⊎◌, List, take, length, get_or, sym, ◌∙◌, ap, subst, arith, slice_get, Some, All, AllPairs, inl, inr}
 use Rattle.std.proofs.lemmas.Bool.{cases_lt}
 use Rattle.std.proofs.lemmas.List.{get_or-take, length-take, get_or_default}
 use Rattle.std.proofs.lemmas.Option.{slice_get_within, get_or_from_slice_get}
@@ -10,7 +10,8 @@ use Rattle.dactl_model.specs.declared.program.Program.{Program}
 use Rattle.dactl_model.specs.Programs.{IsValid}
 use Rattle.dactl_model.specs.RuleTold.{IsRuleNo}
 use Rattle.dactl_decide.specs.Decisions.{AreRulesOf}
-use Rattle.dactl_probe.specs.Lost.{IsRuleLost, AreLost}
+use Rattle.dactl_probe.specs.declared.lost.Lost.{Lost}
+use Rattle.dactl_probe.specs.Lost.{IsRuleLost, IsKnownLost, AreLost}
 use Rattle.dactl_probe.specs.Verdicts.{HasSymbolRead}
 use Rattle.dactl_probe.proofs.Rules.{no_yes}
 use Rattle.dactl_probe.proofs.Decided.{IsNumberNo, IsNotYes, before, symbol_or_fails, same_rule}
@@ -19,12 +20,32 @@ pub lost_no : (rs : List Reading) (n : NodeId) (rule : Rule) → IsRuleLost rs n
 lost_no rs n rule (inl fails) = inl fails
 lost_no rs n rule (inr conflict) = inr (inl conflict)
 
-module _ (rules : List Rule) (rs : List Reading) (n : NodeId) (k : ℕ) (lost : AreLost rules rs n k) (numbers : List ℕ) where
-  pub taken_no : (i : ℕ) → All (λ r. r < k) (take i numbers) → All (IsNumberNo rules rs n) (take i numbers)
-  taken_no i all j d within rule is = lost_no rs n rule (lost (get_or (take i numbers) j d) rule (all j d within) is)
+module _ (rules : List Rule) (rs : List Reading) (n : NodeId) (k : Lost) (lost : AreLost rules rs n k) (numbers : List ℕ) where
+  pub taken_no : (i : ℕ) → All (λ r. r < k.below) (take i numbers) → All (IsNumberNo rules rs n) (take i numbers)
+  taken_no i all j d within rule is = lost_no rs n rule (lost (get_or (take i numbers) j d) rule (inl (all j d within)) is)
 
-  pub taken_not_yes : (group i : ℕ) → All (λ r. r < k) (take i numbers) → All (IsNotYes rules group rs n) (take i numbers)
-  taken_not_yes group i all j d within rule is same holds = no_yes rs n rule (lost_no rs n rule (lost (get_or (take i numbers) j d) rule (all j d within) is)) holds
+  pub taken_not_yes : (group i : ℕ) → All (λ r. r < k.below) (take i numbers) → All (IsNotYes rules group rs n) (take i numbers)
+  taken_not_yes group i all j d within rule is same holds = no_yes rs n rule (lost_no rs n rule (lost (get_or (take i numbers) j d) rule (inl (all j d within)) is)) holds
+
+-- where the last of the first numbers is below the bound, they all are
+pub all_below : (numbers : List ℕ) → AllPairs (λ a b. a < b) numbers → (i bound : ℕ) → (i ≡ 0 → ⊥) → i ≤ length numbers → get_or numbers (i - 1) 0 < bound → All (λ r. r < bound) (take i numbers)
+all_below numbers ascending i bound some inside last k d within =
+    let early : k < i = omega (arith, within, length-take i numbers) in
+    let at : get_or (take i numbers) k d ≡ get_or numbers k d = get_or-take i numbers k d early in
+    let there : i - 1 < length numbers = omega (arith, early, inside) in
+    let last_is : get_or numbers (i - 1) 0 ≡ get_or numbers (i - 1) d = get_or_default numbers (i - 1) 0 d there in
+    elim (cases_lt k (i - 1)) [
+      | inl before ↦ (let less = ascending k (i - 1) d before there in omega (arith, at, less, last_is, last))
+      | inr not_before ↦ (let same : k ≡ i - 1 = omega (arith, early, not_before) in omega (arith, at, ap (λ m. get_or numbers m d) same, last_is, last))
+    ]
+
+-- a lost rule was added
+pub lost_added : (rules : List Rule) (rs : List Reading) (n : NodeId) (old new : Lost) (number : ℕ) (rule : Rule) → AreLost rules rs n old → ((s : ℕ) → IsKnownLost new s → (s ≡ number) ⊎ IsKnownLost old s) → slice_get rules number ≡ Some rule → IsRuleLost rs n rule → AreLost rules rs n new
+lost_added rules rs n old new number rule are either is fails s other known is_other =
+    elim (either s known) [
+      | inl same ↦ subst (IsRuleLost rs n) (same_rule rules number rule other is (ap (slice_get rules) (sym same) ∙ is_other)) fails
+      | inr before_it ↦ are s other before_it is_other
+    ]
 
 -- the numbers up to one are below the next number
 pub below_next : (numbers : List ℕ) → AllPairs (λ a b. a < b) numbers → (i d : ℕ) → i < length numbers → All (λ r. r < get_or numbers i d + 1) (take (i + 1) numbers)
@@ -39,15 +60,16 @@ below_next numbers ascending i d inside j e within =
 
 module _ (p : Program) (valid : IsValid p) (rs : List Reading) (n : NodeId) (f : ℕ) (numbers : List ℕ) (are : AreRulesOf p.rules f numbers) where
   -- the next rule of the symbol is lost, and so are those before it, which have other symbols or were passed
-  pub lost_next : (k i d : ℕ) (rule : Rule) → HasSymbolRead rs n f → AreLost p.rules rs n k → All (λ r. r < k) (take i numbers) → i < length numbers → slice_get p.rules (get_or numbers i d) ≡ Some rule → IsRuleLost rs n rule → AreLost p.rules rs n (get_or numbers i d + 1)
-  lost_next k i d rule has lost passed inside is fails s other below is_other =
+  pub lost_next : (k : Lost) (i d count : ℕ) (rule : Rule) → HasSymbolRead rs n f → AreLost p.rules rs n k → All (λ r. r < k.below) (take i numbers) → i < length numbers → slice_get p.rules (get_or numbers i d) ≡ Some rule → IsRuleLost rs n rule → AreLost p.rules rs n (record { below = get_or numbers i d + 1; count = count; marks = k.marks })
+  lost_next k i d count rule has lost passed inside is fails s other (inr marked) is_other = lost s other (inr marked) is_other
+  lost_next k i d count rule has lost passed inside is fails s other (inl below) is_other =
       elim (cases_lt s (get_or numbers i d)) [
         | inl earlier ↦ elim (symbol_or_fails p valid rs n f has s other is_other) [
-          | inl symbol ↦ lost s other (before p.rules f rs n numbers are (λ r. r < k) i d inside passed s other earlier is_other symbol) is_other
+          | inl symbol ↦ lost s other (inl (before p.rules f rs n numbers are (λ r. r < k.below) i d inside passed s other earlier is_other symbol)) is_other
           | inr other_fails ↦ inl other_fails
         ]
         | inr not_earlier ↦ (
-            let same_number : get_or numbers i d ≡ s = omega arith in
+            let same_number : get_or numbers i d ≡ s = omega (arith, below) in
             let same : rule ≡ other = same_rule p.rules s rule other (ap (slice_get p.rules) (sym same_number) ∙ is) is_other in
             subst (IsRuleLost rs n) same fails)
       ]

@@ -33,6 +33,7 @@ use Rattle.dactl_probe.specs.declared.probe.Next.TheVariants.{Need, Done}
 use Rattle.dactl_model.specs.RuleTold.{ShowsFire, bindings_told}
 use Rattle.dactl_probe.proofs.Decided.{same_rule}
 use Rattle.dactl_probe.specs.Leading.{Leads}
+use Rattle.dactl_probe.specs.declared.lost.Lost.{Lost}
 use Rattle.dactl_probe.specs.Lost.{AreLost}
 use Rattle.dactl_probe.specs.Verdicts.{label_tests, IsPlaced, IsNeed, IsVerdict}
 use Rattle.dactl_probe.specs.Probing.{Probing, IsProbing, IsNextNode, IsTargetRead, Decides, most}
@@ -259,7 +260,7 @@ needed (verdict.Need k) m e = let same : k ≡ m = cc in ap verdict.Need same
 needed (verdict.Fire r) m e = cc
 needed verdict.Note m e = cc
 
-module _ (d : Decisions) (n : NodeId) (footprint : Observed) (v : Verdict) (lost : ℕ) (sound : IsSound d n footprint v lost) where
+module _ (d : Decisions) (n : NodeId) (footprint : Observed) (v : Verdict) (lost : Lost) (sound : IsSound d n footprint v lost) where
   few : (r : Reading) → reading_of footprint.readings n ≡ Some r → length footprint.readings ≤ most d r.label
   few r read = elim sound.traced [
     | inl empty ↦ (let clash = sym read ∙ ap (λ rs. reading_of rs n) empty in cc)
@@ -313,7 +314,7 @@ module _ (d : Decisions) (n : NodeId) (footprint : Observed) (v : Verdict) (lost
   root_read x at = ap (λ b. cond b (Some x) None) (eq-eqb x.node.number n.number (ap (λ k. k.number) at))
 
   -- and after it the fields fit together again
-  pub sound_step : (x : Reading) (w : Verdict) (k : ℕ) → next_of v ≡ Need x.node → IsVerdict d.program (footprint.readings ++ x ∷ []) n w → AreLost d.program.rules (footprint.readings ++ x ∷ []) n k → IsSound d n (record footprint { readings = footprint.readings ++ x ∷ [] }) w k
+  pub sound_step : (x : Reading) (w : Verdict) (k : Lost) → next_of v ≡ Need x.node → IsVerdict d.program (footprint.readings ++ x ∷ []) n w → AreLost d.program.rules (footprint.readings ++ x ∷ []) n k → IsSound d n (record footprint { readings = footprint.readings ++ x ∷ [] }) w k
   sound_step x w k e decided below =
       let need : IsNeed d.program footprint.readings n x.node = subst (λ y. IsVerdict d.program footprint.readings n y) (needed v x.node e) sound.decided in
       record {
@@ -326,7 +327,7 @@ module _ (d : Decisions) (n : NodeId) (footprint : Observed) (v : Verdict) (lost
           | inr t ↦ further need t
         ]);
         decided = decided;
-        lost_below = below;
+        are_lost = below;
       }
     where
       first : IsNeed d.program footprint.readings n x.node → footprint.readings ≡ [] → IsTraced d.program (footprint.readings ++ x ∷ []) n
@@ -364,7 +365,7 @@ module _ (d : Decisions) (n : NodeId) (footprint : Observed) (v : Verdict) (lost
           kept root (q ∷ paths) [] places = places
           kept root (q ∷ paths) (y ∷ xs) places = ((places.0.0, leads_more footprint.readings (x ∷ []) n q y.node places.0.1), kept root paths xs places.1)
 
-pub sound_start : (d : Decisions) (n : NodeId) (footprint : Observed) (v : Verdict) (k : ℕ) → AreDecisions d → d.widest ≤ footprint.room → footprint.readings ≡ [] → footprint.bindings ≡ [] → IsVerdict d.program footprint.readings n v → AreLost d.program.rules footprint.readings n k → IsSound d n footprint v k
+pub sound_start : (d : Decisions) (n : NodeId) (footprint : Observed) (v : Verdict) (k : Lost) → AreDecisions d → d.widest ≤ footprint.room → footprint.readings ≡ [] → footprint.bindings ≡ [] → IsVerdict d.program footprint.readings n v → AreLost d.program.rules footprint.readings n k → IsSound d n footprint v k
 sound_start d n footprint v k are room empty unbound decided below = record {
   decisions = are;
   room = room;
@@ -372,7 +373,7 @@ sound_start d n footprint v k are room empty unbound decided below = record {
   different = rw empty (λ i j d before within. absurd (omega (arith, within)));
   traced = inl empty;
   decided = decided;
-  lost_below = below;
+  are_lost = below;
 }
 
 -- without readings the probe's own node is needed
@@ -389,7 +390,7 @@ nothing_needed v (inl (r, is)) = ap next_of (sym is)
 nothing_needed v (inr is) = ap next_of (sym is)
 
 -- what holds of a probe that begins
-pub started : (d : Decisions) (n : NodeId) (footprint cleared : Observed) (rs : List Reading) (v : Verdict) (k : ℕ) → AreDecisions d → d.widest ≤ footprint.room → cleared ≡ record { readings = []; bindings = []; room = footprint.room } → rs ≡ cleared.readings → IsVerdict d.program rs n v
+pub started : (d : Decisions) (n : NodeId) (footprint cleared : Observed) (rs : List Reading) (v : Verdict) (k : Lost) → AreDecisions d → d.widest ≤ footprint.room → cleared ≡ record { readings = []; bindings = []; room = footprint.room } → rs ≡ cleared.readings → IsVerdict d.program rs n v
     → AreLost d.program.rules rs n k → IsSound d n cleared v k
 started d n footprint cleared rs v k are room is same decided below =
     sound_start d n cleared v k are (subst (λ o. d.widest ≤ o.room) (sym is) room) (ap (λ o. o.readings) is) (ap (λ o. o.bindings) is) (subst (λ xs. IsVerdict d.program xs n v) same decided) (subst (λ xs. AreLost d.program.rules xs n k) same below)

@@ -11,6 +11,7 @@ use Rattle.dactl_probe.specs.declared.verdict.Verdict.{Verdict}
 use Rattle.dactl_probe.specs.declared.verdict.Verdict.TheVariants as verdict
 use Rattle.dactl_probe.specs.declared.probe.Next.{Next}
 use Rattle.dactl_probe.specs.declared.probe.Next.TheVariants.{Need, Done}
+use Rattle.dactl_probe.specs.declared.lost.Lost.{Lost}
 use Rattle.dactl_probe.specs.Leading.{Leads}
 use Rattle.dactl_probe.specs.Lost.{AreLost}
 use Rattle.dactl_probe.specs.Verdicts.{label_tests, IsVerdict}
@@ -32,12 +33,12 @@ pub record IsTraced (p : Program) (rs : List Reading) (n : NodeId) : Type 0 wher
   pub paths : List (List ℕ)
   pub places : AllZip (λ path r. IsReadAt p root rs n path r.node) paths rs
 
--- the fields of a probe fit together; the rules with numbers below `lost` fail whatever is read further
-pub record IsSound (d : Decisions) (n : NodeId) (footprint : Observed) (v : Verdict) (lost : ℕ) : Type 0 where
+-- the fields of a probe fit together; the rules that are known to be lost fail whatever is read further
+pub record IsSound (d : Decisions) (n : NodeId) (footprint : Observed) (v : Verdict) (lost : Lost) : Type 0 where
   pub decisions : AreDecisions d
   pub room : d.widest ≤ footprint.room
   pub unbound : footprint.bindings ≡ []
   pub different : AllPairs (λ a b. a.node ≢ b.node) footprint.readings
   pub traced : (footprint.readings ≡ []) ⊎ IsTraced d.program footprint.readings n
   pub decided : IsVerdict d.program footprint.readings n v
-  pub lost_below : AreLost d.program.rules footprint.readings n lost
+  pub are_lost : AreLost d.program.rules footprint.readings n lost

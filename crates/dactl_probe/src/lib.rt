@@ -4,6 +4,7 @@
 mod binding;
 mod finding;
 mod lost;
+mod marks;
 mod probe;
 mod reading;
 mod rule;

@@ -46,7 +46,7 @@ impl<'a> Model for Probe<'a> {
 
     ghost view = { λ p. record { decisions = p.deciders.now; node = p.node; readings = p.footprint.readings; room = p.footprint.room; next = next_of p.verdict } };
 
-    ghost invariant = { λ p. IsSound p.deciders.now p.node p.footprint p.verdict p.lost.below };
+    ghost invariant = { λ p. IsSound p.deciders.now p.node p.footprint p.verdict p.lost };
 }
 
 /// Puts the nodes of the rule's variables into the footprint.
@@ -70,13 +70,14 @@ impl<'a> Probe<'a> {
         ensures probing { IsProbing result }
     {
         room.clear();
-        let begun = judge(deciders, Lost::none(), room.readings(), node);
+        let mut lost = Lost::none();
+        let verdict = judge(deciders, &mut lost, room.readings(), node);
         Probe {
             deciders,
             node,
             footprint: room,
-            verdict: begun.verdict,
-            lost: begun.lost,
+            verdict,
+            lost,
         }
     }
 
@@ -98,14 +99,13 @@ impl<'a> Probe<'a> {
         ensures probing { IsProbing self.new }
     {
         self.footprint.push_reading(reading);
-        let judged = judge(
+        let verdict = judge(
             self.deciders,
-            self.lost,
+            &mut self.lost,
             self.footprint.readings(),
             self.node,
         );
-        self.verdict = judged.verdict;
-        self.lost = judged.lost;
+        self.verdict = verdict;
         self.need()
     }
 

@@ -4,10 +4,12 @@ ghost use Rattle.dactl_model.specs.Matching.{bound_node, integer_of, delta, Fits
 ghost use Rattle.dactl_model.specs.Programs.{IsDelta};
 ghost use Rattle.dactl_model.specs.Readings.{reading_of};
 ghost use Rattle.dactl_model.specs.RuleTold.{bindings_told, integer_read, HasResultTold, IsRuleYes};
+ghost use Rattle.dactl_probe.specs.Lost.{IsKnownLost, IsRuleLost};
 ghost use Rattle.dactl_probe.specs.Verdicts.{IsRuleFinding};
 
 use crate::binding::{first_bound, has_no_conflict};
 use crate::finding::{Finding, look};
+use crate::lost::Lost;
 use crate::reading::reading_of;
 use dactl_model::graph::{Label, NodeId};
 use dactl_model::program::{Body, Op, Rule};
@@ -74,7 +76,7 @@ fn has_result(readings: &[Reading], rule: &Rule, node: NodeId) -> bool
 }
 
 /// What the readings tell of the rule at the node.
-pub fn find_rule(readings: &[Reading], rule: &Rule, node: NodeId) -> Finding
+fn find_rule(readings: &[Reading], rule: &Rule, node: NodeId) -> Finding
     requires { IsDelta rule.now.body → rule.now.variables ≡ 2 }
     ensures { IsRuleFinding readings.now node rule.now result }
 {
@@ -99,21 +101,49 @@ pub fn find_rule(readings: &[Reading], rule: &Rule, node: NodeId) -> Finding
     }
 }
 
-/// Whether the readings tell that the rule matches at the node.
-fn is_yes(readings: &[Reading], rule: &Rule, node: NodeId) -> bool
-    requires { IsDelta rule.now.body → rule.now.variables ≡ 2 }
+/// The same of the rule with the number. It isn't looked at if it is known to be lost.
+pub fn find_unless_lost(
+    lost: &Lost,
+    number: u32,
+    readings: &[Reading],
+    rule: &Rule,
+    node: NodeId,
+) -> Finding
+    requires operands { IsDelta rule.now.body → rule.now.variables ≡ 2 }
+    requires lost { IsKnownLost lost.now number → IsRuleLost readings.now node rule.now }
+    ensures { IsRuleFinding readings.now node rule.now result }
+{
+    if lost.has(number) {
+        return Finding::No;
+    }
+    find_rule(readings, rule, node)
+}
+
+/// Whether the readings tell that the rule with the number matches at the node.
+fn is_yes(lost: &Lost, number: u32, readings: &[Reading], rule: &Rule, node: NodeId) -> bool
+    requires operands { IsDelta rule.now.body → rule.now.variables ≡ 2 }
+    requires lost { IsKnownLost lost.now number → IsRuleLost readings.now node rule.now }
     ensures { IsTrue result ↔ IsRuleYes readings.now node rule.now }
 {
-    match find_rule(readings, rule, node) {
+    match find_unless_lost(lost, number, readings, rule, node) {
         Finding::No | Finding::Unknown(_) => false,
         Finding::Yes => true,
     }
 }
 
-/// Whether the rule is of the group, and the readings tell that it matches at the node.
-pub fn is_yes_in_group(readings: &[Reading], rule: &Rule, node: NodeId, group: u32) -> bool
-    requires { IsDelta rule.now.body → rule.now.variables ≡ 2 }
+/// Whether the rule with the number is of the group, and the readings tell that it matches at the
+/// node.
+pub fn is_yes_in_group(
+    lost: &Lost,
+    number: u32,
+    readings: &[Reading],
+    rule: &Rule,
+    node: NodeId,
+    group: u32,
+) -> bool
+    requires operands { IsDelta rule.now.body → rule.now.variables ≡ 2 }
+    requires lost { IsKnownLost lost.now number → IsRuleLost readings.now node rule.now }
     ensures { IsTrue result ↔ ((rule.now.group ≡ group) × IsRuleYes readings.now node rule.now) }
 {
-    rule.group == group && is_yes(readings, rule, node)
+    rule.group == group && is_yes(lost, number, readings, rule, node)
 }

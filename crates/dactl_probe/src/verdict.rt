@@ -6,9 +6,9 @@ ghost use Rattle.dactl_probe.specs.Lost.{AreLost};
 ghost use Rattle.dactl_probe.specs.Verdicts.{IsFirstOpen, IsYesInGroup, HasSymbolRead, IsVerdict};
 
 use crate::finding::Finding;
-use crate::lost::{Lost, pass};
+use crate::lost::{Lost, mark, pass};
 use crate::reading::reading_of;
-use crate::rule::{find_rule, is_yes_in_group};
+use crate::rule::{find_unless_lost, is_yes_in_group};
 use dactl_decide::Deciders;
 use dactl_model::graph::{Label, NodeId};
 use dactl_model::program::{Program, Rule};
@@ -21,13 +21,6 @@ pub enum Verdict {
     Need(NodeId),
     Fire(u32),
     Note,
-}
-
-/// A verdict, and the rules that fail whatever is read further.
-#[derive(Clone, Copy, Debug)]
-pub struct Judgement {
-    pub verdict: Verdict,
-    pub lost: Lost,
 }
 
 /// A rule that isn't known to fail: it matches, or waits for a node to be read.
@@ -51,18 +44,18 @@ pub fn rule_of(program: &Program, number: u32) -> &Rule
 fn first_open(
     deciders: &Deciders,
     symbol: u32,
-    lost: Lost,
+    lost: &Lost,
     readings: &[Reading],
     node: NodeId,
 ) -> Option<Open>
-    requires { AreLost deciders.now.program.rules readings.now node lost.below }
+    requires { AreLost deciders.now.program.rules readings.now node lost.now }
     ensures { IsFirstOpen deciders.now.program.rules symbol readings.now node result }
 {
     let program = deciders.program();
     let numbers = deciders.rules(symbol);
     for place in lost.among(numbers)..numbers.len() {
         let rule = numbers[place];
-        match find_rule(readings, rule_of(program, rule), node) {
+        match find_unless_lost(lost, rule, readings, rule_of(program, rule), node) {
             Finding::No => {}
             Finding::Unknown(need) => return Some(Open::Waits { rule, need }),
             Finding::Yes => return Some(Open::Fires(rule)),
@@ -76,11 +69,11 @@ fn yes_in_group(
     deciders: &Deciders,
     symbol: u32,
     group: u32,
-    lost: Lost,
+    lost: &Lost,
     readings: &[Reading],
     node: NodeId,
 ) -> Option<u32>
-    requires { AreLost deciders.now.program.rules readings.now node lost.below }
+    requires { AreLost deciders.now.program.rules readings.now node lost.now }
     ensures { IsYesInGroup deciders.now.program.rules symbol group readings.now node result }
 {
     let program = deciders.program();
@@ -91,7 +84,7 @@ fn yes_in_group(
         if rule.group > group {
             return None;
         }
-        if is_yes_in_group(readings, rule, node, group) {
+        if is_yes_in_group(lost, number, readings, rule, node, group) {
             return Some(number);
         }
     }
@@ -102,13 +95,14 @@ fn yes_in_group(
 fn at_symbol(
     deciders: &Deciders,
     symbol: u32,
-    lost: Lost,
+    lost: &mut Lost,
     readings: &[Reading],
     node: NodeId,
 ) -> Verdict
     requires symbol { HasSymbolRead readings.now node symbol }
-    requires lost { AreLost deciders.now.program.rules readings.now node lost.below }
-    ensures { IsVerdict deciders.now.program readings.now node result }
+    requires lost { AreLost deciders.now.program.rules readings.now node lost.old }
+    ensures verdict { IsVerdict deciders.now.program readings.now node result }
+    ensures lost { AreLost deciders.now.program.rules readings.now node lost.new }
 {
     let program = deciders.program();
     match first_open(deciders, symbol, lost, readings, node) {
@@ -116,6 +110,7 @@ fn at_symbol(
         Some(Open::Fires(rule)) => Verdict::Fire(rule),
         Some(Open::Waits { rule, need }) => {
             let group = rule_of(program, rule).group;
+            mark(deciders, symbol, group, lost, readings, node);
             match yes_in_group(deciders, symbol, group, lost, readings, node) {
                 Some(other) => Verdict::Fire(other),
                 None => Verdict::Need(need),
@@ -124,33 +119,25 @@ fn at_symbol(
     }
 }
 
-/// What the readings decide at the node, where the lost rules fail whatever is read. The rules that
-/// fail so from now on are those of the answer.
+/// What the readings decide at the node. Adds rules to the lost ones.
 ///
-/// It takes time for the rules that are lost by the last reading, and for those of the group of the
-/// first rule that isn't.
-pub fn judge(deciders: &Deciders, lost: Lost, readings: &[Reading], node: NodeId) -> Judgement
-    requires { AreLost deciders.now.program.rules readings.now node lost.below }
-    ensures verdict { IsVerdict deciders.now.program readings.now node result.verdict }
-    ensures lost { AreLost deciders.now.program.rules readings.now node result.lost.below }
+/// It takes time for the rules that are lost by the last reading, and for the open ones of the group
+/// of the first rule that is open.
+pub fn judge(deciders: &Deciders, lost: &mut Lost, readings: &[Reading], node: NodeId) -> Verdict
+    requires { AreLost deciders.now.program.rules readings.now node lost.old }
+    ensures verdict { IsVerdict deciders.now.program readings.now node result }
+    ensures lost { AreLost deciders.now.program.rules readings.now node lost.new }
     ensures decisions { AreDecisions deciders.now }
 {
     let _program = deciders.program();
     match reading_of(readings, node) {
-        None => Judgement {
-            verdict: Verdict::Need(node),
-            lost,
-        },
+        None => Verdict::Need(node),
         Some(reading) => match reading.label {
             Label::Symbol(symbol) => {
-                let lost = pass(deciders, symbol, lost, readings, node);
-                let verdict = at_symbol(deciders, symbol, lost, readings, node);
-                Judgement { verdict, lost }
+                pass(deciders, symbol, lost, readings, node);
+                at_symbol(deciders, symbol, lost, readings, node)
             }
-            Label::Integer(_) => Judgement {
-                verdict: Verdict::Note,
-                lost,
-            },
+            Label::Integer(_) => Verdict::Note,
         },
     }
 }

@@ -16,7 +16,7 @@ use std::alloc::Global;
 use std::test::Fail;
 use std::time::Instant;
 
-/// How many rules there are beside the arithmetic ones, each in a group of its own.
+/// How many rules there are beside the arithmetic ones.
 const RULES: u32 = 4096;
 
 /// `Box` over so many patterns, of which all but the first are `INT`.
@@ -40,13 +40,30 @@ fn pattern(alloc: Global, literal: i64) -> Result<Pat, Memory> {
     Ok(Pat::Sym { symbol: F, args })
 }
 
+/// Which rules share a group.
+#[derive(Clone, Copy)]
+enum Groups {
+    Each,
+    One,
+}
+
+/// The group of rule `5 + number`.
+fn group(groups: Groups, number: u32) -> u32
+    requires { number < 5000 }
+{
+    match groups {
+        Groups::Each => 5 + number,
+        Groups::One => 5,
+    }
+}
+
 /// Rule `5 + k` has the literal `k`.
-fn program(alloc: Global) -> Result<Program, Memory> {
+fn program(alloc: Global, groups: Groups) -> Result<Program, Memory> {
     let mut rules = arithmetic(alloc)?;
     for number in 0..RULES {
         rules.push(Rule {
             symbol: F,
-            group: 5 + number,
+            group: group(groups, number),
             variables: 0,
             pattern: pattern(alloc, number as i64)?,
             body: Body::Written {
@@ -119,21 +136,46 @@ fn print_time(rt: &HostRuntime, what: &str, begun: Instant) -> Result<(), Fail> 
     Ok(())
 }
 
-/// The first leaf decides which rule fires, and then the other nodes of its pattern are read.
+/// Whether the probe fires the rule of the literal, after readings of 64 nodes.
+fn fires(alloc: Global, deciders: &Deciders, literal: i64, rule: u32) -> Result<bool, Memory> {
+    Ok(match attempt(alloc, deciders, literal)? {
+        Some(found) => {
+            found.event == Event::Fire { node: id(0), rule }
+                && found.footprint.readings().len() == 64
+        }
+        None => false,
+    })
+}
+
+/// Whether the first leaf decides which rule fires, and the other nodes of its pattern are read
+/// then.
+fn are_told_apart(rt: &HostRuntime, groups: Groups) -> Result<bool, Fail> {
+    let program = program(rt.alloc(), groups)?;
+    if !is_valid(&program) {
+        return Ok(false);
+    }
+    let begun = Instant::now(rt)?;
+    let deciders = compile(rt.alloc(), &program)?;
+    print_time(rt, "4096 rules compiled", begun)?;
+    for (literal, rule) in [(0, 5), (2048, 2053), (4095, 4100)] {
+        let begun = Instant::now(rt)?;
+        if !fires(rt.alloc(), &deciders, literal, rule)? {
+            return Ok(false);
+        }
+        print_time(rt, "64 nodes read", begun)?;
+    }
+    Ok(deciders.widest() == 64)
+}
+
 #[test]
 fn many_rules_are_told_apart_by_a_leaf(rt: HostRuntime) -> Result<(), Fail> {
-    let program = program(rt.alloc())?;
-    assert!(rt; is_valid(&program));
-    let begun = Instant::now(&rt)?;
-    let deciders = compile(rt.alloc(), &program)?;
-    print_time(&rt, "4096 rules compiled", begun)?;
-    assert_eq!(rt; deciders.widest(), 64);
-    for (literal, rule) in [(0, 5), (2048, 2053), (4095, 4100)] {
-        let begun = Instant::now(&rt)?;
-        let found = attempt(rt.alloc(), &deciders, literal)?.ok_or("no attempt")?;
-        print_time(&rt, "64 nodes read", begun)?;
-        assert_eq!(rt; found.event, Event::Fire { node: id(0), rule });
-        assert_eq!(rt; found.footprint.readings().len(), 64);
-    }
+    assert!(rt; are_told_apart(&rt, Groups::Each)?);
+    Ok(())
+}
+
+/// The rules that are lost by the leaf stand on both sides of the one that is open.
+#[test]
+fn rules_of_one_group_are_told_apart_by_a_leaf(rt: HostRuntime) -> Result<(), Fail> {
+    assert!(rt; are_told_apart(&rt, Groups::One)?);
     Ok(())
 }

@@ -6,7 +6,7 @@ use Rattle.dactl_probe.proofs.Passing.{taken_no}
 use Rattle.dactl_probe.proofs.verdict.first_open.Goals as goal
 
 pub loop-place-init : goal.loop-place-init
-loop-place-init c = taken_no c.args.deciders.now.program.rules c.args.readings.now c.args.node c.args.lost.below c.requires c.rules-numbers.result.now _ c.among-place.ensures.lost
+loop-place-init c = taken_no c.args.deciders.now.program.rules c.args.readings.now c.args.node c.args.lost.now c.requires c.rules-numbers.result.now _ c.among-place.ensures.lost
 
 pub returns-in-Unknown : goal.returns-in-Unknown
 returns-in-Unknown c =

@@ -6,7 +6,7 @@ use Rattle.dactl_probe.proofs.Passing.{taken_not_yes, no_more}
 use Rattle.dactl_probe.proofs.verdict.yes_in_group.Goals as goal
 
 pub loop-place-init : goal.loop-place-init
-loop-place-init c = taken_not_yes c.args.deciders.now.program.rules c.args.readings.now c.args.node c.args.lost.below c.requires c.rules-numbers.result.now c.args.group _ c.among-place.ensures.lost
+loop-place-init c = taken_not_yes c.args.deciders.now.program.rules c.args.readings.now c.args.node c.args.lost.now c.requires c.rules-numbers.result.now c.args.group _ c.among-place.ensures.lost
 
 pub loop-place-preserved : goal.loop-place-preserved
 loop-place-preserved c =
