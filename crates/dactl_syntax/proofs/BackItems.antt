@@ -31,7 +31,7 @@ use Rattle.dactl_syntax.proofs.TokenFacts.{tokens_are_seen}
 use Rattle.dactl_syntax.proofs.Holding.{AreTold, split_told, Anything, holds_anything, holds_behind, holds_before, each_append}
 use Rattle.dactl_syntax.proofs.Words.{IsFine, text_of, after, toks_at, tokens_at, text_row, toks_row, words_lex, words_seen}
 use Rattle.dactl_syntax.proofs.Back.{Back, SameBy, back_weaker, back_bytes, back_one, back_pair, back_means, back_left, back_right, back_none, back_some, back_behind, back_before, back_many}
-use Rattle.dactl_syntax.proofs.Signs.{semicolon_back, comma_back, equals_back, rewrites_back, module_back, end_module_back, imports_back, symbol_back, pattern_back, rule_back, initial_back, public_back, upper_back}
+use Rattle.dactl_syntax.proofs.Signs.{no_integer_keyword, no_integer_upper, semicolon_back, comma_back, equals_back, rewrites_back, module_back, end_module_back, imports_back, symbol_back, pattern_back, rule_back, initial_back, public_back, upper_back}
 use Rattle.dactl_syntax.proofs.BackTerms.{ReadsBack, upper_reads, term_reads_back}
 use Rattle.dactl_syntax.proofs.BackPatterns.{pattern_reads_back}
 use Rattle.dactl_syntax.proofs.BackRules.{behind_reads, before_reads, listed_text, listed_reads, separated_reads, group_reads}
@@ -46,9 +46,6 @@ imports_read = holds_means imports_of (λ i. Back imports (item_text i) (SameBy 
     (behind_reads s.Imports imports_back (before_reads s.Semicolon semicolon_back names_read))
 
 -- ---- symbols
-
-no_integer_keyword : kinds.Keyword ≡ kinds.Integer → ⊥
-no_integer_keyword e = cc
 
 class_word : (c : Class) (bytes : List ℕ) → kind_of bytes ≡ Some kinds.Keyword → is_class (sort_of kinds.Keyword bytes) ≡ true → class_of (sort_of kinds.Keyword bytes) ≡ c → Back class (word bytes) (λ v. v.0 ≡ c)
 class_word c bytes e h k = back_means class_at (λ v. v.0 ≡ c) (λ t l. l) (back_one (λ t. is_class t.sort) (record { kind = kinds.Keyword; bytes = bytes; blank = 32 }) (λ t. class_of t.sort ≡ c) (record { kind = e; fits = λ i. absurd (no_integer_keyword i); space = inl refl }) (λ place. h) (λ place. k))
@@ -127,9 +124,6 @@ end_back : (w : List ℕ) → kind_of w ≡ Some kinds.Upper → Back (one (λ t
 unfolding sort_of same_sort
 end_back w e = back_one (λ t. is s.Upper t && bytes_eq t.word w) (record { kind = kinds.Upper; bytes = w; blank = 32 }) Anything (record { kind = e; fits = λ i. absurd (no_integer_upper i); space = inl refl })
     (λ place. (bytes_eq-Decides w w).1 refl) (λ place. tt)
-  where
-    no_integer_upper : kinds.Upper ≡ kinds.Integer → ⊥
-    no_integer_upper i = cc
 
 -- what stands behind the name
 abbrev rest_text : List ℕ → List Item → List ℕ

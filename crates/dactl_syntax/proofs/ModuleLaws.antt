@@ -11,6 +11,7 @@ use Rattle.dactl_grammar.specs.Reader.{read_one}
 use Rattle.dactl_syntax.specs.Productions.{Tok, is, sign, behind, before, pair, several, separated, upper, term, args, pattern, group, names, imports_of, imports, class_at, class, symbols_of, symbols, pattern_named_of, named, rules_of, rules, initial_of, initial, an_item, is_name, module_of, a_module, text}
 use Rattle.dactl_syntax.specs.Reading.{by, comma_upper_at, comma_term_at, terms_at, items_at, names_at, imports_at, class_reads, public_class_at, public_at, symbols_at, named_at, rules_at, initial_at, item_at, module_end, module_at, modules_at}
 use Rattle.dactl_grammar.proofs.Exact.{exact_one}
+use Rattle.dactl_syntax.proofs.Sorts.{first_of_and}
 use Rattle.dactl_syntax.proofs.Fits.{none, Solid, Fit, fit_sign, solid_sign, solid_means, solid_row_first, solid_row_second, a_row, a_choice, a_maybe, a_many, a_meaning}
 use Rattle.dactl_syntax.proofs.TermLaws.{goes_on_term, solid_choice_of, fit_upper, solid_upper, solid_behind}
 use Rattle.dactl_syntax.proofs.PatternLaws.{a_before, a_behind, a_list, solid_listed, solid_before, fit_pattern_at, solid_pattern_at}
@@ -91,12 +92,8 @@ starts_rest t = starts_item t || same_sort s.EndModule t
 abbrev pub goes_on_items : Sort → Bool
 goes_on_items t = starts_item t || starts_piece t
 
-name_sort : (a b : Bool) → (a && b) ≡ true → a ≡ true
-name_sort true b h = refl
-name_sort false b h = absurd cc
-
 pub name_upper : (name : Name) (t : Tok) → is_name name t ≡ true → is s.Upper t ≡ true
-name_upper name t h = name_sort (is s.Upper t) (bytes_eq t.word name.text) h
+name_upper name t h = first_of_and (is s.Upper t) (bytes_eq t.word name.text) h
 
 module _ (n : ℕ) where
   pub fit_named : Fit (named n) (named_at n) (same_sort s.Pattern) none
@@ -159,7 +156,7 @@ module _ (n : ℕ) where
 
   pub fit_end : (name : Name) → Fit (behind s.EndModule (before (one (is_name name)) s.Semicolon)) (module_end name) (same_sort s.EndModule) none
   unfolding same_sort
-  fit_end name = a_behind s.EndModule (a_before s.Semicolon (a_test (is_name name) (same_sort s.Upper) (λ t h. name_sort (is s.Upper t) (bytes_eq t.word name.text) h)) (solid_test (is_name name)) refl refl refl) (solid_before (one (is_name name)) s.Semicolon) refl refl refl
+  fit_end name = a_behind s.EndModule (a_before s.Semicolon (a_test (is_name name) (same_sort s.Upper) (λ t h. first_of_and (is s.Upper t) (bytes_eq t.word name.text) h)) (solid_test (is_name name)) refl refl refl) (solid_before (one (is_name name)) s.Semicolon) refl refl refl
 
   pub fit_module : Fit (a_module n) (module_at n) (same_sort s.Module) none
   unfolding same_sort module_at items_at

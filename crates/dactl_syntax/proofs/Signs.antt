@@ -23,7 +23,7 @@ use Rattle.dactl_syntax.proofs.Back.{Back, SameBy, back_one, back_means}
 no_integer_sign : kinds.Sign ≡ kinds.Integer → ⊥
 no_integer_sign e = cc
 
-no_integer_keyword : kinds.Keyword ≡ kinds.Integer → ⊥
+pub no_integer_keyword : kinds.Keyword ≡ kinds.Integer → ⊥
 no_integer_keyword e = cc
 
 -- a sign before a space
@@ -143,7 +143,7 @@ int_back = keyword_word s.Int (codes "INT") refl refl
 
 -- ---- names and integers
 
-no_integer_upper : kinds.Upper ≡ kinds.Integer → ⊥
+pub no_integer_upper : kinds.Upper ≡ kinds.Integer → ⊥
 no_integer_upper e = cc
 
 no_integer_lower : kinds.Lower ≡ kinds.Integer → ⊥

@@ -20,7 +20,7 @@ at [] n = None
 at (s ∷ l) zero = Some s
 at (s ∷ l) (suc n) = at l n
 
-first_of_and : (a b : Bool) → (a && b) ≡ true → a ≡ true
+pub first_of_and : (a b : Bool) → (a && b) ≡ true → a ≡ true
 first_of_and true b h = refl
 first_of_and false b h = absurd cc
 

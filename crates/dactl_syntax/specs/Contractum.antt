@@ -7,9 +7,7 @@ use Rattle.dactl_model.specs.declared.graph.Mark.{Mark}
 use Rattle.dactl_model.specs.declared.graph.Mark.TheVariants.{Idle, Active, Waiting}
 use Rattle.dactl_model.specs.declared.program.Mention.{Mention}
 use Rattle.dactl_model.specs.declared.program.Mention.TheVariants.{Old, Fresh}
-use Rattle.dactl_model.specs.declared.program.FreshArc.{FreshArc}
 use Rattle.dactl_model.specs.declared.program.FreshNode.{FreshNode}
-use Rattle.dactl_model.specs.declared.program.Left.{Left}
 use Rattle.dactl_model.specs.declared.program.Left.TheVariants.{Root, Variable}
 use Rattle.dactl_model.specs.declared.program.Move.{Move}
 use Rattle.dactl_syntax.specs.declared.tree.Name.{Name}

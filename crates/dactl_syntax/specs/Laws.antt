@@ -27,12 +27,12 @@ TreesAreSpelled = (bytes : List ℕ) (tree : Text) → Reads bytes tree → IsSp
 abbrev pub TreesAreInOrder : Type 0
 TreesAreInOrder = (bytes : List ℕ) (tree : Text) → Reads bytes tree → PlacesInOrder tree
 
--- the bytes read a tree that is the same but for its places
+-- the bytes read a tree that is the same but for its places and the length of its text
 pub record ReadsSame (bytes : List ℕ) (tree : Text) : Type 0 where
   pub again : Text
   pub reads : Reads bytes again
   pub same : without_places again ≡ without_places tree
 
--- the canonical text of what the bytes read reads the same, but for the places
+-- the canonical text of what the bytes read reads the same, but for the places and the length
 abbrev pub CanonicalReads : Type 0
 CanonicalReads = (bytes : List ℕ) (tree : Text) → Reads bytes tree → ReadsSame (canonical tree) tree

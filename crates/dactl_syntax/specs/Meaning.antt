@@ -1,11 +1,8 @@
 -- What a tree means: the least of its faults, or its program.
-use Rattle.std.specs.Prelude.{◌≡◌, ℕ, ◌+◌, Bool, true, false, ◌⊎◌, List, [], ◌∷◌, ◌++◌, map, length, Any, Contains, Option, Some, None, unwrap_or}
+use Rattle.std.specs.Prelude.{◌≡◌, ℕ, ◌+◌, true, ◌⊎◌, List, [], ◌∷◌, ◌++◌, map, length, Any, Contains, Option, Some, None, unwrap_or}
 use Rattle.std.specs.List.{flat_map}
-use Rattle.dactl_base.specs.declared.refusal.Kind.{Kind}
 use Rattle.dactl_base.specs.declared.refusal.Kind.TheVariants as kinds
 use Rattle.dactl_base.specs.declared.refusal.Refusal.{Refusal}
-use Rattle.dactl_model.specs.declared.program.Class.{Class}
-use Rattle.dactl_model.specs.declared.program.Class.TheVariants as classes
 use Rattle.dactl_model.specs.declared.program.Mention.{Mention}
 use Rattle.dactl_model.specs.declared.program.Mention.TheVariants.{Old, Fresh}
 use Rattle.dactl_model.specs.declared.program.Op.TheVariants as op
@@ -15,7 +12,6 @@ use Rattle.dactl_model.specs.declared.program.Start.{Start}
 use Rattle.dactl_model.specs.declared.program.Program.{Program}
 use Rattle.dactl_model.specs.Binders.{head}
 use Rattle.dactl_model.specs.Programs.{arithmetic_rule}
-use Rattle.dactl_syntax.specs.declared.tree.Name.{Name}
 use Rattle.dactl_syntax.specs.declared.tree.PatternTree.{PatternTree}
 use Rattle.dactl_syntax.specs.declared.tree.TermTree.{TermTree}
 use Rattle.dactl_syntax.specs.declared.tree.RuleTree.{RuleTree}
@@ -23,10 +19,10 @@ use Rattle.dactl_syntax.specs.declared.tree.Item.{Item}
 use Rattle.dactl_syntax.specs.declared.tree.Item.TheVariants as item
 use Rattle.dactl_syntax.specs.declared.tree.Text.{Text}
 use Rattle.dactl_syntax.specs.Declarations.{Placed, PlacedGroup, items, groups, rules, symbols, named_pattern}
-use Rattle.dactl_syntax.specs.Sight.{Seen, SeenSymbol, SeenPattern, sees, class_for}
+use Rattle.dactl_syntax.specs.Sight.{Seen, SeenSymbol, SeenPattern, sees}
 use Rattle.dactl_syntax.specs.Uses.{pattern_uses}
 use Rattle.dactl_syntax.specs.ScopeFaults.{ScopeFault}
-use Rattle.dactl_syntax.specs.Expansion.{variables_of, rule_expansion, pattern_expansion}
+use Rattle.dactl_syntax.specs.Expansion.{variables_of, rule_expansion}
 use Rattle.dactl_syntax.specs.Contractum.{term_of_part, made_by, term_draws, denotes, fresh_nodes, moves_of, wakes_of}
 use Rattle.dactl_syntax.specs.RuleFaults.{pattern_faults, contractum_faults, rule_faults}
 

@@ -1,7 +1,6 @@
 -- The faults of patterns and rules: for each kind the list of places where it holds.
-use Rattle.std.specs.Prelude.{ℕ, ◌+◌, Bool, true, false, not, ◌&&◌, ◌||◌, List, [], ◌∷◌, ◌++◌, map, length, count_by, Option, Some, None, ◌==◌, if◌then◌else◌, nat_lt}
+use Rattle.std.specs.Prelude.{ℕ, Bool, true, false, not, ◌&&◌, ◌||◌, List, [], ◌∷◌, ◌++◌, map, length, count_by, Option, Some, None, if◌then◌else◌, nat_lt}
 use Rattle.std.specs.List.{filter, flat_map}
-use Rattle.std.specs.Str.{bytes_eq}
 use Rattle.dactl_base.specs.declared.refusal.Kind.{Kind}
 use Rattle.dactl_base.specs.declared.refusal.Kind.TheVariants as kinds
 use Rattle.dactl_base.specs.declared.refusal.Refusal.{Refusal}
@@ -21,7 +20,7 @@ use Rattle.dactl_syntax.specs.declared.tree.RuleTree.{RuleTree}
 use Rattle.dactl_syntax.specs.Sight.{Seen, SeenSymbol, SeenPattern, sees, class_for}
 use Rattle.dactl_syntax.specs.declared.tree.Text.{Text}
 use Rattle.dactl_syntax.specs.Expansion.{is_among, number_in, occurrences, variables_of, root_names, is_overwritable, pattern_nodes, rule_expansion, pattern_expansion}
-use Rattle.dactl_syntax.specs.Contractum.{Target, Core, Number, Of, Sketch, MentionTree, made_by, mentions_of, term_of_part, left_of_part, name_list, given_names}
+use Rattle.dactl_syntax.specs.Contractum.{Core, Number, Of, Sketch, made_by, mentions_of, term_of_part, left_of_part, name_list, given_names}
 
 -- ---- names that come again
 
