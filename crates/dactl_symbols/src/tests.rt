@@ -1,7 +1,7 @@
 use crate::scoping::scope;
 use crate::sight::{Scopes, Seen};
 use dactl_base::refusal::{Kind, Place, Refusal, TextFault};
-use dactl_model::program::Class;
+use dactl_model::program::{Class, Symbol};
 use dactl_syntax::parse;
 use dactl_tokens::tokens;
 use std::alloc::{AllocError, Global};
@@ -144,18 +144,26 @@ fn with_symbols(alloc: Global, count: u32) -> Result<Vec<u8>, AllocError> {
     Ok(text)
 }
 
+// The first text is not refused, and the second for its count, at that byte.
+fn is_the_last(alloc: Global, most: &[u8], more: &[u8], byte: u32) -> bool {
+    scoped(alloc, most).is_ok() && refusal(alloc, more) == at(Kind::TooMany, byte)
+}
+
 #[test]
-fn one_rule_or_name_too_many_is_told(rt: HostRuntime) -> Result<(), AllocError> {
-    let alloc = rt.alloc();
-    let most = with_rules(alloc, 4096)?;
-    assert!(&rt; scoped(alloc, most.as_slice()).is_ok());
-    let more = with_rules(alloc, 4097)?;
-    assert!(&rt; refusal(alloc, more.as_slice()) == at(Kind::TooMany, 28708));
-    let most = with_symbols(alloc, 16_382)?;
-    assert!(&rt; scoped(alloc, most.as_slice()).is_ok());
-    // The module, the first symbol and 16,382 more are 16,384 names.
-    let more = with_symbols(alloc, 16_383)?;
-    assert!(&rt; refusal(alloc, more.as_slice()) == at(Kind::TooMany, 32 + 6 * 16_382 + 1));
+fn one_rule_too_many_is_told(rt: HostRuntime) -> Result<(), AllocError> {
+    let most = with_rules(rt.alloc(), 4096)?;
+    let more = with_rules(rt.alloc(), 4097)?;
+    assert!(&rt; is_the_last(rt.alloc(), most.as_slice(), more.as_slice(), 28_708));
+    Ok(())
+}
+
+// The module, the first symbol and 16,382 more are 16,384 names.
+#[test]
+fn one_name_too_many_is_told(rt: HostRuntime) -> Result<(), AllocError> {
+    let most = with_symbols(rt.alloc(), 16_382)?;
+    let more = with_symbols(rt.alloc(), 16_383)?;
+    let byte = 32 + 6 * 16_382 + 1;
+    assert!(&rt; is_the_last(rt.alloc(), most.as_slice(), more.as_slice(), byte));
     Ok(())
 }
 
@@ -188,9 +196,7 @@ fn symbol(id: u32, class: Class) -> Option<Seen> {
     Some(Seen::Symbol { id, class })
 }
 
-#[test]
-fn symbols_have_numbers_and_classes(rt: HostRuntime) -> Result<(), TextFault> {
-    let scopes = scoped(rt.alloc(), TWO)?;
+fn has_classes(scopes: &Scopes) -> bool {
     for (owner, number, class) in [
         (0, 7, Some(Class::Overwritable)),
         (1, 7, Some(Class::Creatable)),
@@ -199,21 +205,31 @@ fn symbols_have_numbers_and_classes(rt: HostRuntime) -> Result<(), TextFault> {
         (0, 9, None),
         (1, 10, None),
     ] {
-        assert!(&rt;
-            scopes.class_for(owner, number) == class,
-            "{owner} {number}"
-        );
-    }
-    let symbols = scopes.symbols(rt.alloc())?;
-    assert_eq!(rt; symbols.len(), 10);
-    match symbols.as_slice() {
-        [.., cell, own, f] => {
-            assert_eq!(rt; cell.name.as_slice(), b"Cell".as_slice());
-            assert_eq!(rt; own.name.as_slice(), b"Own".as_slice());
-            assert_eq!(rt; f.name.as_slice(), b"F".as_slice());
-            assert!(&rt; cell.class == Class::Overwritable);
+        if scopes.class_for(owner, number) != class {
+            return false;
         }
-        _ => assert!(&rt; false),
     }
+    true
+}
+
+// The symbols behind those of the arithmetic.
+fn are_written(symbols: &[Symbol]) -> bool {
+    match symbols {
+        [_, _, _, _, _, _, _, cell, own, f] => {
+            cell.name.as_slice() == b"Cell".as_slice()
+                && own.name.as_slice() == b"Own".as_slice()
+                && f.name.as_slice() == b"F".as_slice()
+                && cell.class == Class::Overwritable
+        }
+        _ => false,
+    }
+}
+
+#[test]
+fn symbols_have_numbers_and_classes(rt: HostRuntime) -> Result<(), TextFault> {
+    let scopes = scoped(rt.alloc(), TWO)?;
+    assert!(&rt; has_classes(&scopes));
+    let symbols = scopes.symbols(rt.alloc())?;
+    assert!(&rt; are_written(symbols.as_slice()));
     Ok(())
 }
