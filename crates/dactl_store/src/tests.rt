@@ -1,6 +1,5 @@
-ghost use Rattle.std.specs.Prelude.{◌≡◌, ◌≤◌, IfOk, IfSome, IsTrue, length};
+ghost use Rattle.std.specs.Prelude.{◌≡◌};
 ghost use Rattle.dactl_model.specs.Graphs.{HasNode};
-ghost use Rattle.dactl_model.specs.Programs.{IsValid as IsValidProgram};
 ghost use Rattle.dactl_store.specs.Held.{IsValid};
 
 use crate::{BeginCause, Memory, Store};
@@ -8,19 +7,19 @@ use dactl_model::arithmetic::arithmetic_rule;
 use dactl_model::footprint::Woken;
 use dactl_model::graph::{Label, Mark, NodeId, Room};
 use dactl_model::program::{Class, FreshArc, FreshNode, Mention, Op, Program, Rule, Start, Symbol};
-use dactl_model::reading::Reading;
 use dactl_model::validity::is_valid;
 use dactl_model::view::View;
 use sqlite_items::Items;
 use std::alloc::Global;
+use std::process::Abort;
 use std::test::Fail;
 
+/// Symbols named by one letter each; a store knows them by their numbers alone.
 fn symbols(alloc: Global) -> Result<Items<Symbol>, Memory> {
-    let names: [&[u8]; 7] = [b"IAdd", b"ISub", b"IMul", b"IEq", b"ILt", b"True", b"False"];
     let mut all = Items::new(alloc);
-    for name in names {
+    for letter in b'A'..b'H' {
         all.push(Symbol {
-            name: Items::from_slice(alloc, name)?,
+            name: Items::from_slice(alloc, &[letter])?,
             class: Class::Rewritable,
         })?;
     }
@@ -34,6 +33,10 @@ fn rules(alloc: Global) -> Result<Items<Rule>, Memory> {
         all.push(arithmetic_rule(alloc, number as u32, op)?)?;
     }
     Ok(all)
+}
+
+fn symbol(number: u32) -> Label {
+    Label::Symbol(number)
 }
 
 fn node(
@@ -61,9 +64,9 @@ fn start(alloc: Global) -> Result<Start, Memory> {
     let waiting = [(1, true), (1, true), (2, false)];
     let to_itself = [(1, false), (2, true)];
     let mut fresh = Items::new(alloc);
-    fresh.push(node(alloc, Label::Symbol(5), Mark::Waiting(2), &waiting)?)?;
-    fresh.push(node(alloc, Label::Symbol(6), Mark::Active, &[])?)?;
-    fresh.push(node(alloc, Label::Symbol(4), Mark::Active, &to_itself)?)?;
+    fresh.push(node(alloc, symbol(5), Mark::Waiting(2), &waiting)?)?;
+    fresh.push(node(alloc, symbol(6), Mark::Active, &[])?)?;
+    fresh.push(node(alloc, symbol(4), Mark::Active, &to_itself)?)?;
     fresh.push(node(alloc, Label::Integer(7), Mark::Idle, &[])?)?;
     Ok(Start { fresh, root: 0 })
 }
@@ -76,17 +79,17 @@ fn program(alloc: Global) -> Result<Program, Memory> {
     })
 }
 
-fn begin(alloc: Global, program: &Program, room: Room) -> Result<Store, BeginCause>
-    requires { IsValidProgram program.now }
-{
-    Store::begin(alloc, &program.start, room)
+fn room(nodes: u32, arcs: u32) -> Room {
+    Room { nodes, arcs }
 }
 
-/// The store with the start, and room for six nodes and eight arcs.
-fn begun(alloc: Global, program: &Program) -> Result<Store, BeginCause>
-    requires { IsValidProgram program.now }
-{
-    begin(alloc, program, Room { nodes: 6, arcs: 8 })
+/// The store with the start, and this room.
+fn begun(rt: &impl Abort, alloc: Global, room: Room) -> Result<Store, BeginCause> {
+    let Ok(program) = program(alloc) else {
+        return Err(BeginCause::Memory);
+    };
+    assert!(rt; is_valid(&program));
+    Store::begin(alloc, &program.start, room)
 }
 
 fn id(number: u32) -> NodeId
@@ -95,85 +98,96 @@ fn id(number: u32) -> NodeId
     NodeId { number }
 }
 
-fn mark_text(mark: Mark) -> &'static str {
-    match mark {
-        Mark::Idle => "",
-        Mark::Active => "*",
-        Mark::Waiting(1) => "#",
-        Mark::Waiting(2) => "##",
-        Mark::Waiting(_) => "###",
-    }
-}
-
-fn label_text(alloc: Global, label: Label) -> Result<String, Memory> {
-    match label {
-        Label::Symbol(symbol) => format!(in alloc; "S{symbol}"),
-        Label::Integer(integer) => format!(in alloc; "{integer}"),
-    }
-}
-
-/// The node's mark, label and arcs, and behind `@` its version.
-fn node_text(alloc: Global, store: &Store, node: NodeId) -> Result<String, Memory>
+/// Whether these are the arcs of the node, each with its flag.
+fn has_arcs(store: &Store, node: NodeId, arcs: &[(u32, bool)]) -> bool
     requires valid { IsValid store.now }
     requires node { HasNode store.now.graph node }
 {
-    let mark = mark_text(store.mark(node));
-    let label = label_text(alloc, store.label(node))?;
-    let mut text = format!(in alloc; "{mark}{label}")?;
-    for place in 0..store.arity(node) {
-        let arc = store.arc(node, place);
-        let flag = if arc.waits { "^" } else { "" };
-        let target = arc.target.number;
-        let part = format!(in alloc; " {flag}{target}")?;
-        text.push_str(part.as_str())?;
+    let count = store.arity(node);
+    if arcs.len() != count as usize {
+        return false;
     }
-    let version = store.version(node);
-    let part = format!(in alloc; "@{version}")?;
-    text.push_str(part.as_str())?;
-    Ok(text)
+    for place in 0..count {
+        let arc = store.arc(node, place);
+        let (target, waits) = arcs[place as usize];
+        if arc.target.number != target || arc.waits != waits {
+            return false;
+        }
+    }
+    true
 }
 
-/// The number of the root, and then the nodes.
-fn text_of(alloc: Global, store: &Store) -> Result<String, Memory> {
-    let count = store.next_number();
-    let root = store.root().number;
-    let mut text = format!(in alloc; "{root}")?;
-    for number in 0..count {
-        let node = node_text(alloc, store, id(number))?;
-        let part = format!(in alloc; "; {node}")?;
-        text.push_str(part.as_str())?;
+/// Whether there is a node of this number, with this version, mark and label and these arcs.
+fn is_node(
+    store: &Store,
+    number: u32,
+    version: u32,
+    mark: Mark,
+    label: Label,
+    arcs: &[(u32, bool)],
+) -> bool {
+    if number >= store.next_number() {
+        return false;
     }
-    Ok(text)
+    let node = id(number);
+    store.version(node) == version
+        && store.mark(node) == mark
+        && store.label(node) == label
+        && has_arcs(store, node, arcs)
+}
+
+/// Whether the nodes of the start are as they were, but for this root, these targets in the place of the
+/// nodes 1 and 2, and this version of those that have arcs.
+fn has_start(store: &Store, root: u32, targets: [u32; 2], version: u32) -> bool {
+    let [one, two] = targets;
+    let waiting = [(one, true), (one, true), (two, false)];
+    let to_itself = [(one, false), (two, true)];
+    store.next_number() >= 4
+        && store.root() == id(root)
+        && is_node(store, 0, version, Mark::Waiting(2), symbol(5), &waiting)
+        && is_node(store, 1, 0, Mark::Active, symbol(6), &[])
+        && is_node(store, 2, version, Mark::Active, symbol(4), &to_itself)
+        && is_node(store, 3, 0, Mark::Idle, Label::Integer(7), &[])
+}
+
+/// Whether a store with this room has the start, and so much room left.
+fn begins(rt: &impl Abort, alloc: Global, limit: Room, left: Room) -> bool {
+    match begun(rt, alloc, limit) {
+        Ok(store) => has_start(&store, 0, [1, 2], 0) && store.left() == left,
+        Err(_) => false,
+    }
 }
 
 /// The start fits exactly into a room of 4 nodes and 5 arcs.
 #[test]
-fn a_store_begins_with_the_start(rt: HostRuntime) -> Result<(), Fail> {
-    let program = program(rt.alloc())?;
-    assert!(rt; is_valid(&program));
-    let store = begun(rt.alloc(), &program)?;
-    let text = text_of(rt.alloc(), &store)?;
-    assert_eq!(rt; text.as_str(), "0; ##S5 ^1 ^1 2@0; *S6@0; *S4 1 ^2@0; 7@0");
-    assert_eq!(rt; store.left(), Room { nodes: 2, arcs: 3 });
-    let store = begin(rt.alloc(), &program, Room { nodes: 4, arcs: 5 })?;
-    assert_eq!(rt; store.left(), Room { nodes: 0, arcs: 0 });
-    Ok(())
+fn a_store_begins_with_the_start(rt: HostRuntime) {
+    assert!(&rt; begins(&rt, rt.alloc(), room(6, 8), room(2, 3)));
+    assert!(&rt; begins(&rt, rt.alloc(), room(4, 5), room(0, 0)));
 }
 
+/// Whether the start is refused for this room, with what it needs and what is left.
+fn is_refused(rt: &impl Abort, alloc: Global, limit: Room) -> bool {
+    match begun(rt, alloc, limit) {
+        Err(BeginCause::Small { needed, left }) => needed == room(4, 5) && left == limit,
+        _ => false,
+    }
+}
+
+/// There is room for a node or an arc too few.
 #[test]
-fn a_start_without_room_is_refused_with_both_counts(rt: HostRuntime) -> Result<(), Fail> {
-    let program = program(rt.alloc())?;
-    assert!(rt; is_valid(&program));
-    for room in [Room { nodes: 3, arcs: 8 }, Room { nodes: 6, arcs: 4 }] {
-        match begin(rt.alloc(), &program, room) {
-            Err(BeginCause::Small { needed, left }) => {
-                assert_eq!(rt; needed, Room { nodes: 4, arcs: 5 });
-                assert_eq!(rt; left, room);
-            }
-            _ => assert!(rt; false, "it is not refused as too small"),
+fn a_start_without_room_is_refused_with_both_counts(rt: HostRuntime) {
+    assert!(&rt; is_refused(&rt, rt.alloc(), room(3, 8)));
+    assert!(&rt; is_refused(&rt, rt.alloc(), room(6, 4)));
+}
+
+/// Whether the active nodes of these numbers come in turn.
+fn are_active(store: &mut Store, numbers: &[u32]) -> bool {
+    for number in numbers {
+        if store.active() != Some(id(*number)) {
+            return false;
         }
     }
-    Ok(())
+    true
 }
 
 /// Gives the node of this number a mark, if there is one.
@@ -185,51 +199,52 @@ fn mark_node(store: &mut Store, number: u32, mark: Mark) -> bool {
     true
 }
 
+/// Whether, each time that a node gets another mark, the active nodes have their turns.
+fn take_turns(store: &mut Store) -> bool {
+    for (number, mark, turns) in [
+        (1, Mark::Active, [1, 2, 1]),
+        (1, Mark::Idle, [2, 2, 2]),
+        (3, Mark::Active, [2, 3, 2]),
+        (2, Mark::Waiting(1), [3, 3, 3]),
+    ] {
+        if !mark_node(store, number, mark) || !are_active(store, &turns) {
+            return false;
+        }
+    }
+    true
+}
+
 /// The ring has the active nodes alone, each in its turn.
 #[test]
 fn active_nodes_take_turns(rt: HostRuntime) -> Result<(), Fail> {
-    let program = program(rt.alloc())?;
-    assert!(rt; is_valid(&program));
-    let mut store = begun(rt.alloc(), &program)?;
-    for number in [1, 2, 1] {
-        assert_eq!(rt; store.active(), Some(id(number)));
-    }
-    assert!(rt; mark_node(&mut store, 1, Mark::Idle));
-    assert!(rt; mark_node(&mut store, 3, Mark::Active));
-    for number in [2, 3, 2] {
-        assert_eq!(rt; store.active(), Some(id(number)));
-    }
-    assert!(rt; mark_node(&mut store, 2, Mark::Waiting(1)));
-    for number in [3, 3] {
-        assert_eq!(rt; store.active(), Some(id(number)));
-    }
-    assert!(rt; store.any_active());
-    assert!(rt; mark_node(&mut store, 3, Mark::Idle));
-    assert!(rt; !store.any_active());
-    assert_eq!(rt; store.active(), None);
+    let mut store = begun(&rt, rt.alloc(), room(6, 8))?;
+    assert!(&rt; take_turns(&mut store) && store.any_active());
+    assert!(&rt; mark_node(&mut store, 3, Mark::Idle));
+    assert!(&rt; !store.any_active() && store.active().is_none());
     Ok(())
 }
 
-/// The reading of the node of this number, if there is one.
-fn reading_at(store: &Store, number: u32) -> Option<Reading> {
-    if number >= store.next_number() {
-        return None;
+/// Whether the first node is read with its label, its targets in order, and its version.
+fn is_read(store: &Store) -> bool {
+    if store.next_number() == 0 {
+        return false;
     }
-    Some(store.reading(id(number)))
+    let reading = store.reading(id(0));
+    let [first, second, third, ..] = reading.targets.nodes;
+    reading.node == id(0)
+        && reading.label == symbol(5)
+        && reading.version == 0
+        && reading.targets.count == 3
+        && first == id(1)
+        && second == id(1)
+        && third == id(2)
 }
 
+/// A reading names each target as often as there are arcs to it.
 #[test]
 fn a_reading_has_the_targets_in_order(rt: HostRuntime) -> Result<(), Fail> {
-    let program = program(rt.alloc())?;
-    assert!(rt; is_valid(&program));
-    let store = begun(rt.alloc(), &program)?;
-    let reading = reading_at(&store, 0).ok_or("no node")?;
-    assert_eq!(rt; reading.node, id(0));
-    assert_eq!(rt; reading.label, Label::Symbol(5));
-    assert_eq!(rt; reading.version, 0);
-    assert_eq!(rt; reading.targets.count, 3);
-    let [first, second, third, ..] = reading.targets.nodes;
-    assert_eq!(rt; [first, second, third], [id(1), id(1), id(2)]);
+    let store = begun(&rt, rt.alloc(), room(6, 8))?;
+    assert!(&rt; is_read(&store));
     Ok(())
 }
 
@@ -240,27 +255,28 @@ fn append_leading_to(store: &mut Store, target: u32, version: u32) -> Option<Nod
     if left.nodes == 0 || left.arcs == 0 || target >= room {
         return None;
     }
-    let node = store.append(Label::Symbol(5), Mark::Active, version);
+    let node = store.append(symbol(5), Mark::Active, version);
     store.append_arc(node, id(target), true);
     Some(node)
 }
 
-/// The first of the two new nodes leads to the second, which is still to be added then.
+/// Whether two nodes are added where there is room for two. The first leads to the second, which is still
+/// to be added then.
+fn takes_two(store: &mut Store) -> bool {
+    append_leading_to(store, 5, 8) == Some(id(4))
+        && store.left() == room(1, 2)
+        && append_leading_to(store, 0, 9) == Some(id(5))
+        && append_leading_to(store, 0, 10).is_none()
+}
+
+/// The new nodes stand behind those of the start, and have their turns behind them.
 #[test]
 fn nodes_are_added_up_to_the_room(rt: HostRuntime) -> Result<(), Fail> {
-    let program = program(rt.alloc())?;
-    assert!(rt; is_valid(&program));
-    let mut store = begun(rt.alloc(), &program)?;
-    assert_eq!(rt; append_leading_to(&mut store, 5, 8), Some(id(4)));
-    assert_eq!(rt; store.left(), Room { nodes: 1, arcs: 2 });
-    assert_eq!(rt; append_leading_to(&mut store, 0, 9), Some(id(5)));
-    let text = text_of(rt.alloc(), &store)?;
-    let added = "0; ##S5 ^1 ^1 2@0; *S6@0; *S4 1 ^2@0; 7@0; *S5 ^5@8; *S5 ^0@9";
-    assert_eq!(rt; text.as_str(), added);
-    assert_eq!(rt; append_leading_to(&mut store, 0, 10), None);
-    for number in [1, 2, 4, 5, 1] {
-        assert_eq!(rt; store.active(), Some(id(number)));
-    }
+    let mut store = begun(&rt, rt.alloc(), room(6, 8))?;
+    assert!(&rt; takes_two(&mut store) && has_start(&store, 0, [1, 2], 0));
+    assert!(&rt; is_node(&store, 4, 8, Mark::Active, symbol(5), &[(5, true)]));
+    assert!(&rt; is_node(&store, 5, 9, Mark::Active, symbol(5), &[(0, true)]));
+    assert!(&rt; are_active(&mut store, &[1, 2, 4, 5, 1]));
     Ok(())
 }
 
@@ -276,73 +292,61 @@ fn redirect(store: &mut Store, moves: [(u32, u32); 2], version: u32) -> bool {
     true
 }
 
-/// In turn: a pair that would follow another, a root and a second pair of one node, pairs that
-/// change nothing, two nodes that change places, and a node that is still to be added.
+/// Whether the root, the targets and the versions are sent, in turn, by a pair that would follow another, a
+/// root and a second pair of one node, pairs that change nothing, two nodes that change places, and a node
+/// that is still to be added.
+fn are_sent(store: &mut Store) -> bool {
+    for (version, moves, root, targets, given) in [
+        (4, [(1, 3), (3, 2)], 0, [3, 2], 4),
+        (5, [(0, 1), (0, 2)], 1, [3, 2], 4),
+        (6, [(2, 2), (3, 3)], 1, [3, 2], 4),
+        (7, [(2, 3), (3, 2)], 1, [2, 3], 7),
+        (8, [(3, 5), (1, 5)], 5, [2, 5], 8),
+    ] {
+        if !redirect(store, moves, version) || !has_start(store, root, targets, given) {
+            return false;
+        }
+    }
+    true
+}
+
+/// All pairs are followed at the same time, and the first one that begins with a node counts.
 #[test]
 fn targets_are_sent_once(rt: HostRuntime) -> Result<(), Fail> {
-    let program = program(rt.alloc())?;
-    assert!(rt; is_valid(&program));
-    let mut store = begun(rt.alloc(), &program)?;
-    for (version, moves, after) in [
-        (
-            4,
-            [(1, 3), (3, 2)],
-            "0; ##S5 ^3 ^3 2@4; *S6@0; *S4 3 ^2@4; 7@0",
-        ),
-        (
-            5,
-            [(0, 1), (0, 2)],
-            "1; ##S5 ^3 ^3 2@4; *S6@0; *S4 3 ^2@4; 7@0",
-        ),
-        (
-            6,
-            [(2, 2), (3, 3)],
-            "1; ##S5 ^3 ^3 2@4; *S6@0; *S4 3 ^2@4; 7@0",
-        ),
-        (
-            7,
-            [(2, 3), (3, 2)],
-            "1; ##S5 ^2 ^2 3@7; *S6@0; *S4 2 ^3@7; 7@0",
-        ),
-        (
-            8,
-            [(3, 5), (1, 5)],
-            "5; ##S5 ^2 ^2 5@8; *S6@0; *S4 2 ^5@8; 7@0",
-        ),
-    ] {
-        assert!(rt; redirect(&mut store, moves, version));
-        let text = text_of(rt.alloc(), &store)?;
-        assert_eq!(rt; text.as_str(), after);
-    }
+    let mut store = begun(&rt, rt.alloc(), room(6, 8))?;
+    assert!(&rt; are_sent(&mut store));
     Ok(())
 }
 
-/// The nodes that a notification of the node of this number makes active, if there is such a node.
-fn notify(alloc: Global, store: &mut Store, number: u32) -> Result<Option<Woken>, Memory> {
+/// Whether a notification of the node of this number makes these nodes active.
+fn wakes(alloc: Global, store: &mut Store, number: u32, nodes: &[NodeId]) -> Result<bool, Memory> {
     let count = store.next_number();
-    if number >= count {
-        return Ok(None);
-    }
     let mut woken = Woken::with_room(alloc, count)?;
+    if number >= count {
+        return Ok(false);
+    }
     store.notify(id(number), &mut woken);
-    Ok(Some(woken))
+    Ok(woken.list() == nodes)
+}
+
+/// Whether node 0 is active and waits no more, node 1 is idle, and node 2 has this mark, and a flag where it
+/// waits.
+fn is_notified(store: &Store, mark: Mark, waits: bool) -> bool {
+    let plain = [(1, false), (1, false), (2, false)];
+    let to_itself = [(1, false), (2, waits)];
+    is_node(store, 0, 0, Mark::Active, symbol(5), &plain)
+        && is_node(store, 1, 0, Mark::Idle, symbol(6), &[])
+        && is_node(store, 2, 0, mark, symbol(4), &to_itself)
 }
 
 /// Node 0 waits along two arcs for node 1, to which node 2 has a plain arc; and node 2 has a flagged
 /// arc to itself.
 #[test]
 fn a_node_that_waits_takes_one_notification_for_each_arc(rt: HostRuntime) -> Result<(), Fail> {
-    let program = program(rt.alloc())?;
-    assert!(rt; is_valid(&program));
-    let mut store = begun(rt.alloc(), &program)?;
-    let woken = notify(rt.alloc(), &mut store, 1)?.ok_or("no node")?;
-    assert_eq!(rt; woken.list(), [id(0)].as_slice());
-    let text = text_of(rt.alloc(), &store)?;
-    assert_eq!(rt; text.as_str(), "0; *S5 1 1 2@0; S6@0; *S4 1 ^2@0; 7@0");
-    let woken = notify(rt.alloc(), &mut store, 2)?.ok_or("no node")?;
-    assert!(rt; woken.list().is_empty());
-    let text = text_of(rt.alloc(), &store)?;
-    assert_eq!(rt; text.as_str(), "0; *S5 1 1 2@0; S6@0; S4 1 2@0; 7@0");
-    assert_eq!(rt; store.active(), Some(id(0)));
+    let mut store = begun(&rt, rt.alloc(), room(6, 8))?;
+    assert!(&rt; wakes(rt.alloc(), &mut store, 1, &[id(0)])?);
+    assert!(&rt; is_notified(&store, Mark::Active, true));
+    assert!(&rt; wakes(rt.alloc(), &mut store, 2, &[])?);
+    assert!(&rt; is_notified(&store, Mark::Idle, false) && are_active(&mut store, &[0, 0]));
     Ok(())
 }

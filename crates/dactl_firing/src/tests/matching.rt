@@ -1,14 +1,13 @@
 //! Whether a rule of the tests' programs matches at a node.
 
-ghost use Rattle.std.specs.Prelude.{◌≡◌, ◌<◌, ◌↔◌, IsTrue, All, IsSomeAnd, map, slice_get};
+ghost use Rattle.std.specs.Prelude.{◌≡◌, IsTrue, All, IsSomeAnd, map, slice_get};
 ghost use Rattle.dactl_model.specs.Graphs.{HasNode, node_at};
-ghost use Rattle.dactl_model.specs.Patterns.{sat, has_symbol, is_integer, is_bound, all_hold};
-ghost use Rattle.dactl_model.specs.Matching.{Matches, HasResult, FitsWord, delta};
+ghost use Rattle.dactl_model.specs.Patterns.{sat, has_symbol, is_bound, all_hold};
+ghost use Rattle.dactl_model.specs.Matching.{Matches};
 ghost use Rattle.dactl_store.specs.Held.{IsValid};
 
-use crate::arithmetic::integer_at;
 use dactl_model::graph::{Label, NodeId};
-use dactl_model::program::{Body, Op, Pat, Program};
+use dactl_model::program::{Body, Pat, Program};
 use dactl_model::view::View;
 use dactl_store::Store;
 
@@ -21,15 +20,6 @@ fn is_symbol(label: Label, symbol: u32) -> bool
     }
 }
 
-fn is_any_integer(label: Label) -> bool
-    ensures { result ≡ is_integer label }
-{
-    match label {
-        Label::Symbol(_) => false,
-        Label::Integer(_) => true,
-    }
-}
-
 fn is_bound_to(bound: &[NodeId], variable: u8, node: NodeId) -> bool
     ensures { result ≡ is_bound (slice_get bound.now variable) node }
 {
@@ -39,8 +29,8 @@ fn is_bound_to(bound: &[NodeId], variable: u8, node: NodeId) -> bool
     }
 }
 
-/// Whether the pattern holds at the node. Unions, differences, literals, and symbols with other than
-/// two arguments count as failing, since no program of the tests has them.
+/// Whether the pattern holds at the node. Integers, unions, differences, and symbols with other than two
+/// arguments count as failing, since the rule of the tests has none.
 #[cycle(holds)]
 fn holds(store: &Store, bound: &[NodeId], pattern: &Pat, node: NodeId) -> bool
     requires { IsValid store.now }
@@ -51,14 +41,13 @@ fn holds(store: &Store, bound: &[NodeId], pattern: &Pat, node: NodeId) -> bool
     }
     match pattern {
         Pat::Any => true,
-        Pat::Int => is_any_integer(store.label(node)),
         Pat::Bind { var, inner } => {
             is_bound_to(bound, *var, node) && holds(store, bound, inner.get(), node)
         }
         Pat::Sym { symbol, args } => {
             is_symbol(store.label(node), *symbol) && both_hold(store, bound, args.as_slice(), node)
         }
-        Pat::Literal(_) | Pat::Union { .. } | Pat::Less { .. } => false,
+        Pat::Int | Pat::Literal(_) | Pat::Union { .. } | Pat::Less { .. } => false,
     }
 }
 
@@ -85,37 +74,8 @@ fn are_nodes(store: &Store, bound: &[NodeId]) -> bool
     bound.iter().all(|node| node.number < count)
 }
 
-/// Whether what an arithmetic rule makes is an integer of 64 bits.
-fn has_word(op: Op, x: i64, y: i64) -> bool
-    ensures { IsTrue result → FitsWord (delta op x y) }
-{
-    match op {
-        Op::Add => x.checked_add(y).is_some(),
-        Op::Sub => x.checked_sub(y).is_some(),
-        Op::Mul => x.checked_mul(y).is_some(),
-        Op::Eq | Op::Lt => true,
-    }
-}
-
-fn has_result(store: &Store, body: &Body, bound: &[NodeId]) -> bool
-    requires valid { IsValid store.now }
-    requires nodes { All (HasNode store.now.graph) bound.now }
-    ensures { IsTrue result → HasResult body.now store.now.graph bound.now }
-{
-    match body {
-        Body::Written { .. } => true,
-        Body::Delta(op) => {
-            if bound.len() != 2 {
-                return false;
-            }
-            let x = integer_at(store, bound[0]);
-            let y = integer_at(store, bound[1]);
-            has_word(*op, x, y)
-        }
-    }
-}
-
-/// Whether the rule of this number matches at the node, with these nodes for its variables.
+/// Whether the rule of this number is a written one that matches at the node, with these nodes for its
+/// variables.
 pub fn is_match(store: &Store, program: &Program, node: NodeId, rule: u32, bound: &[NodeId]) -> bool
     requires { IsValid store.now }
     ensures { IsTrue result → Matches program.now store.now.graph node rule bound.now }
@@ -126,5 +86,5 @@ pub fn is_match(store: &Store, program: &Program, node: NodeId, rule: u32, bound
     if bound.len() != found.variables as usize || !are_nodes(store, bound) {
         return false;
     }
-    holds(store, bound, &found.pattern, node) && has_result(store, &found.body, bound)
+    matches!(found.body, Body::Written { .. }) && holds(store, bound, &found.pattern, node)
 }

@@ -17,71 +17,29 @@ pub const A: u32 = 9;
 
 pub const CONS: u32 = 10;
 
+/// Eleven symbols, which the tests know by their numbers alone.
 fn symbols(alloc: Global) -> Result<Items<Symbol>, Memory> {
-    let names: [&[u8]; 11] = [
-        b"IAdd", b"ISub", b"IMul", b"IEq", b"ILt", b"True", b"False", b"F", b"G", b"A", b"Cons",
-    ];
     let mut all = Items::new(alloc);
-    for name in names {
+    for letter in b'A'..b'L' {
         all.push(Symbol {
-            name: Items::from_slice(alloc, name)?,
+            name: Items::from_slice(alloc, &[b'S', letter])?,
             class: Class::Rewritable,
         })?;
     }
     Ok(all)
 }
 
-/// The symbol over two patterns.
-pub fn over(alloc: Global, symbol: u32, first: Pat, second: Pat) -> Result<Pat, Memory> {
-    let mut args = Items::new(alloc);
-    args.push(first)?;
-    args.push(second)?;
-    Ok(Pat::Sym { symbol, args })
-}
-
-pub fn variable(alloc: Global, var: u8, pattern: Pat) -> Result<Pat, Memory> {
+fn variable(alloc: Global, var: u8, pattern: Pat) -> Result<Pat, Memory> {
     let inner = Boxed::new(alloc, pattern)?;
     Ok(Pat::Bind { var, inner })
 }
 
 /// `r:F[x y]`.
-pub fn root_over_two(alloc: Global) -> Result<Pat, Memory> {
-    let x = variable(alloc, 1, Pat::Any)?;
-    let y = variable(alloc, 2, Pat::Any)?;
-    variable(alloc, 0, over(alloc, F, x, y)?)
-}
-
-fn rules(alloc: Global, pattern: Pat, body: Body) -> Result<Items<Rule>, Memory> {
-    let operations = [Op::Add, Op::Sub, Op::Mul, Op::Eq, Op::Lt];
-    let mut all = Items::new(alloc);
-    for (number, op) in operations.into_iter().enumerate() {
-        all.push(arithmetic_rule(alloc, number as u32, op)?)?;
-    }
-    all.push(Rule {
-        symbol: F,
-        group: 5,
-        variables: 3,
-        pattern,
-        body,
-    })?;
-    Ok(all)
-}
-
-/// The rules of the arithmetic, and as number 5 one for `F` with three variables.
-pub fn program(
-    alloc: Global,
-    pattern: Pat,
-    body: Body,
-    start: Items<FreshNode>,
-) -> Result<Program, Memory> {
-    Ok(Program {
-        symbols: symbols(alloc)?,
-        rules: rules(alloc, pattern, body)?,
-        start: Start {
-            fresh: start,
-            root: 0,
-        },
-    })
+fn pattern(alloc: Global) -> Result<Pat, Memory> {
+    let mut args = Items::new(alloc);
+    args.push(variable(alloc, 1, Pat::Any)?)?;
+    args.push(variable(alloc, 2, Pat::Any)?)?;
+    variable(alloc, 0, Pat::Sym { symbol: F, args })
 }
 
 /// The node of a variable.
@@ -129,32 +87,74 @@ pub fn from(var: u8, mention: Mention) -> Move {
     }
 }
 
-/// Adds a new node.
-pub fn push(
-    fresh: &mut Items<FreshNode>,
-    alloc: Global,
-    label: Label,
-    mark: Mark,
-    arcs: &[FreshArc],
-) -> Result<(), Memory> {
-    fresh.push(FreshNode {
-        label,
-        arcs: Items::from_slice(alloc, arcs)?,
-        mark,
-    })?;
-    Ok(())
+/// A new node, with borrowed arcs.
+#[derive(Clone, Copy)]
+pub struct NewNode<'a> {
+    pub label: Label,
+    pub mark: Mark,
+    pub arcs: &'a [FreshArc],
 }
 
-/// A written body.
-pub fn written(
+pub fn node(label: Label, mark: Mark, arcs: &[FreshArc]) -> NewNode<'_> {
+    NewNode { label, mark, arcs }
+}
+
+fn nodes(alloc: Global, all: &[NewNode<'_>]) -> Result<Items<FreshNode>, Memory> {
+    let mut fresh = Items::new(alloc);
+    for node in all {
+        fresh.push(FreshNode {
+            label: node.label,
+            arcs: Items::from_slice(alloc, node.arcs)?,
+            mark: node.mark,
+        })?;
+    }
+    Ok(fresh)
+}
+
+/// What a rule makes, with borrowed parts.
+#[derive(Clone, Copy)]
+pub struct Contractum<'a> {
+    pub fresh: &'a [NewNode<'a>],
+    pub moves: &'a [Move],
+    pub wakes: &'a [u8],
+}
+
+fn rule(alloc: Global, made: Contractum<'_>) -> Result<Rule, Memory> {
+    Ok(Rule {
+        symbol: F,
+        group: 5,
+        variables: 3,
+        pattern: pattern(alloc)?,
+        body: Body::Written {
+            fresh: nodes(alloc, made.fresh)?,
+            moves: Items::from_slice(alloc, made.moves)?,
+            wakes: Items::from_slice(alloc, made.wakes)?,
+        },
+    })
+}
+
+fn rules(alloc: Global, made: Contractum<'_>) -> Result<Items<Rule>, Memory> {
+    let operations = [Op::Add, Op::Sub, Op::Mul, Op::Eq, Op::Lt];
+    let mut all = Items::new(alloc);
+    for (number, op) in operations.into_iter().enumerate() {
+        all.push(arithmetic_rule(alloc, number as u32, op)?)?;
+    }
+    all.push(rule(alloc, made)?)?;
+    Ok(all)
+}
+
+/// The rules of the arithmetic, and as number 5 `r:F[x y]`, which makes this; and this start.
+pub fn program(
     alloc: Global,
-    fresh: Items<FreshNode>,
-    moves: &[Move],
-    wakes: &[u8],
-) -> Result<Body, Memory> {
-    Ok(Body::Written {
-        fresh,
-        moves: Items::from_slice(alloc, moves)?,
-        wakes: Items::from_slice(alloc, wakes)?,
+    made: Contractum<'_>,
+    start: &[NewNode<'_>],
+) -> Result<Program, Memory> {
+    Ok(Program {
+        symbols: symbols(alloc)?,
+        rules: rules(alloc, made)?,
+        start: Start {
+            fresh: nodes(alloc, start)?,
+            root: 0,
+        },
     })
 }
