@@ -8,8 +8,6 @@ mod names;
 mod scoping;
 pub mod sight;
 mod survey;
-#[cfg(test)]
-mod tests;
 mod uses;
 
 pub use scoping::scope;
