@@ -29,11 +29,11 @@ any_split P (x ∷ xs) ys any = elim (Any-uncons P x (xs ++ ys) any) [
   | inr later ↦ (elim (any_split P xs ys later) [ inl left ↦ inl (Any-cons P x xs (inr left)) | inr right ↦ inr right ])
 ]
 
-any_left : {X : Type 0} (P : X → Type 0) (xs ys : List X) → Any P xs → Any P (xs ++ ys)
+pub any_left : {X : Type 0} (P : X → Type 0) (xs ys : List X) → Any P xs → Any P (xs ++ ys)
 any_left P [] ys any = absurd (Any-nil P any)
 any_left P (x ∷ xs) ys any = Any-cons P x (xs ++ ys) (elim (Any-uncons P x xs any) [ inl here ↦ inl here | inr later ↦ inr (any_left P xs ys later) ])
 
-any_right : {X : Type 0} (P : X → Type 0) (xs ys : List X) → Any P ys → Any P (xs ++ ys)
+pub any_right : {X : Type 0} (P : X → Type 0) (xs ys : List X) → Any P ys → Any P (xs ++ ys)
 any_right P [] ys any = any
 any_right P (x ∷ xs) ys any = Any-cons P x (xs ++ ys) (inr (any_right P xs ys any))
 

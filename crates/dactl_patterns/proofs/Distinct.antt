@@ -1,11 +1,13 @@
 -- The names of a list each once, added one after the other.
 use Rattle.std.proofs.Common.{◌≡◌, ℕ, Bool, true, false, List, [], ◌∷◌, ◌++◌, refl, sym, ap, ◌∙◌, append_assoc}
 use Rattle.std.specs.Prelude.{not, ◌&&◌, ◌||◌, if◌then◌else◌, filter}
+use Rattle.std.specs.Borrow.{Bor}
+use Rattle.std.specs.List.{list_any}
 use Rattle.std.specs.Str.{bytes_eq}
-use Rattle.std.proofs.lemmas.List.{append-nil}
+use Rattle.std.proofs.lemmas.List.{append-nil, map-append}
 use Rattle.std.proofs.lemmas.Slice.Eq.{bytes_eq-Decides}
 use Rattle.dactl_syntax.specs.Expansion.{is_among, each_once}
-use Rattle.dactl_patterns.specs.Naming.{with_name}
+use Rattle.dactl_patterns.specs.Naming.{words, with_name}
 
 -- the names, and those of the list that are new, one after the other
 abbrev pub distinct_from : List (List ℕ) → List (List ℕ) → List (List ℕ)
@@ -86,3 +88,30 @@ every (w ∷ more) = ap (λ k. w ∷ k) (every more)
 
 pub distinct_all : (names : List (List ℕ)) → distinct_from [] names ≡ each_once names
 distinct_all names = distinct_is [] names ∙ every (each_once names)
+
+-- ---- names behind references
+
+same_both_ways : (w v : List ℕ) → bytes_eq w v ≡ bytes_eq v w
+same_both_ways w v = by_both (bytes_eq w v) (bytes_eq v w) refl refl
+  where
+    by_both : (a b : Bool) → bytes_eq w v ≡ a → bytes_eq v w ≡ b → a ≡ b
+    by_both true true e f = refl
+    by_both true false e f = let one = (bytes_eq-Decides v w).1 (sym ((bytes_eq-Decides w v).0 e)) in sym one ∙ f
+    by_both false true e f = let one = (bytes_eq-Decides w v).1 (sym ((bytes_eq-Decides v w).0 f)) in sym e ∙ one
+    by_both false false e f = refl
+
+pub among_references : (names : List (Bor (List ℕ))) (name : Bor (List ℕ)) → list_any (λ k. bytes_eq name.now k.now) names ≡ is_among (words names) name.now
+among_references [] name = refl
+among_references (k ∷ names) name =
+    ap (λ b. b || list_any (λ k. bytes_eq name.now k.now) names) (same_both_ways name.now k.now)
+    ∙ ap (λ b. bytes_eq k.now name.now || b) (among_references names name)
+
+added_by : (names : List (Bor (List ℕ))) (name : Bor (List ℕ)) (b : Bool) → words (if b then names else names ++ name ∷ []) ≡ (if b then words names else words names ++ name.now ∷ [])
+added_by names name true = refl
+added_by names name false = map-append (λ (k : Bor (List ℕ)). k.now) names (name ∷ [])
+
+-- a name that is inserted behind a reference is added
+pub inserted_name : (names new : List (Bor (List ℕ))) (name : Bor (List ℕ)) → new ≡ (if list_any (λ k. bytes_eq name.now k.now) names then names else names ++ name ∷ []) → words new ≡ with_name (words names) name.now
+inserted_name names new name is =
+    ap words is ∙ added_by names name (list_any (λ k. bytes_eq name.now k.now) names)
+    ∙ ap (λ b. if b then words names else words names ++ name.now ∷ []) (among_references names name)

@@ -1,5 +1,5 @@
 -- Counts taken from a room, one after the other; and what a walk has before it.
-use Rattle.std.proofs.Common.{◌≡◌, ℕ, zero, suc, ◌+◌, ◌*◌, ◌<◌, ◌≤◌, List, [], ◌∷◌, length, map, take, get_or, Option, Some, None, refl, sym, ap, ◌∙◌, arith}
+use Rattle.std.proofs.Common.{◌≡◌, ℕ, zero, suc, ◌+◌, ◌*◌, ◌<◌, ◌≤◌, List, [], ◌∷◌, length, take, get_or, Option, Some, None, refl, ap, ◌∙◌, arith}
 use Rattle.std.specs.Prelude.{sum_by, slice_get, option_and_then}
 use Rattle.std.proofs.Math.Nat.{mul-le-mul_right}
 use Rattle.std.proofs.lemmas.List.Sums.{sum_by-cons, sum_by_more, sum_by_more_le, sum-map}
@@ -13,6 +13,7 @@ use Rattle.dactl_syntax.specs.declared.tree.Text.{Text}
 use Rattle.dactl_syntax.specs.Declarations.{item_pattern, named_pattern}
 use Rattle.dactl_patterns.specs.Standing.{Leaves, weight_level, weight, pattern_weight, item_weight, module_weight, text_weight, work}
 use Rattle.dactl_patterns.proofs.Trees.{fold_symbol, fold_binder, fold_chain}
+use Rattle.dactl_patterns.proofs.Expansions.{sum_by-map}
 
 -- what is taken after something is taken
 pub leaves_then : (room left a b n : ℕ) (r : Option ℕ) → n ≡ a + b → left + a ≡ room → Leaves left b r → Leaves room n r
@@ -42,10 +43,6 @@ weight_symbol name args = fold_symbol weight_level name args ∙ ap (λ n. 1 + n
 
 pub weight_binder : (name : Name) (inner : PatternTree) → weight (p.Binder name inner) ≡ 1 + weight inner
 weight_binder name inner = fold_binder weight_level name inner
-
-sum_by-map : {A B : Type 0} (f : B → ℕ) (g : A → B) (xs : List A) → sum_by f (map g xs) ≡ sum_by (λ x. f (g x)) xs
-sum_by-map f g [] = refl
-sum_by-map f g (x ∷ xs) = sum_by-cons f (g x) (map g xs) ∙ ap (λ n. f (g x) + n) (sum_by-map f g xs) ∙ sym (sum_by-cons (λ x. f (g x)) x xs)
 
 pub weight_chain : (first : PatternTree) (rest : List (Sign × PatternTree)) → weight (p.Chain first rest) ≡ 1 + (weight first + sum_by (λ link. weight link.1) rest)
 weight_chain first rest = fold_chain weight_level first rest ∙ ap (λ n. 1 + (weight first + n)) (sum_by-map (λ link. link.1) (λ (l : Sign × PatternTree). (l.0, weight l.1)) rest)

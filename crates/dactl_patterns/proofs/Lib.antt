@@ -10,4 +10,8 @@ pub mod Counted
 pub mod Gaining
 pub mod Reaching
 pub mod CycleFaults
-pub mod Settled
+pub mod Descending
+pub mod Induction
+pub mod HeadLayers
+pub mod Passing
+pub mod Following

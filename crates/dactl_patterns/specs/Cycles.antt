@@ -1,5 +1,5 @@
 -- The named patterns of a text in their order, and which of them are faults.
-use Rattle.std.specs.Prelude.{◌≡◌, ℕ, ◌+◌, List, [], ◌∷◌, ◌++◌, Any}
+use Rattle.std.specs.Prelude.{◌≡◌, ℕ, ◌+◌, Bool, false, nat_lt, List, [], ◌∷◌, ◌++◌, Option, Some, None, Any}
 use Rattle.dactl_base.specs.declared.refusal.Kind.TheVariants as kinds
 use Rattle.dactl_base.specs.declared.refusal.Refusal.{Refusal}
 use Rattle.dactl_syntax.specs.declared.tree.Item.{Item}
@@ -31,3 +31,8 @@ DeclaredCycle text p r = (r ≡ record { kind = kinds.PatternCycle; place = p.pl
 -- one of the named patterns has it
 abbrev pub SomeCycle : Text → List Declared → Refusal → Type 0
 SomeCycle text patterns r = Any (λ p. DeclaredCycle text p r) patterns
+
+-- the place stands behind the fault, where there is one
+abbrev pub stands_behind : ℕ → Option Refusal → Bool
+stands_behind byte None = false
+stands_behind byte (Some r) = nat_lt r.place.byte byte

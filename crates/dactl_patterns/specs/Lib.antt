@@ -6,4 +6,7 @@ pub mod Expanding
 pub mod Expanded
 pub mod Cycling
 pub mod Cycles
-pub mod Settling
+pub mod Levels
+pub mod Chains
+pub mod Leads
+pub mod NamedPatterns

@@ -3,13 +3,14 @@
 ghost use Rattle.std.specs.Prelude.{◌≡◌, sum_by, count_by, IfOk, IfErr};
 ghost use Rattle.dactl_base.specs.declared.refusal.TextFault.TheVariants as fault;
 ghost use Rattle.dactl_syntax.specs.Expansion as spec_of;
-ghost use Rattle.dactl_symbols.specs.Scoping.{IsScopesOf};
 ghost use Rattle.dactl_patterns.specs.Standing as spec;
 ghost use Rattle.dactl_patterns.specs.Standing.{names_pattern};
+ghost use Rattle.dactl_patterns.specs.NamedPatterns.{AreNamed};
 
+use crate::named::NamedPatterns;
 use crate::standing::{resolved, seen};
 use dactl_base::refusal::TextFault;
-use dactl_symbols::sight::{Scopes, Seen};
+use dactl_symbols::sight::Seen;
 use dactl_syntax::tree::{Item, Module, PatternTree, Sign, Text};
 
 fn is_named(item: &Item) -> bool
@@ -55,15 +56,14 @@ fn taken(room: usize, count: usize) -> Option<usize>
 /// where they are more. The walk ends as soon as the room does.
 #[cycle(counting)]
 pub fn room_left(
-    text: &Text,
-    scopes: &Scopes,
+    patterns: &NamedPatterns,
     owner: usize,
     depth: usize,
     tree: &PatternTree,
     room: usize,
 ) -> Option<usize>
-    requires { IsScopesOf text.now scopes.now }
-    ensures { spec.Leaves room (spec.inner_nodes text.now owner depth tree.now) result }
+    requires { AreNamed patterns.now }
+    ensures { spec.Leaves room (spec.inner_nodes patterns.now.text.now owner depth tree.now) result }
 {
     match tree {
         PatternTree::Any => taken(room, 1),
@@ -71,17 +71,17 @@ pub fn room_left(
         PatternTree::Integer { .. } => taken(room, 1),
         PatternTree::Variable { .. } => taken(room, 1),
         PatternTree::Binder { inner, .. } => {
-            room_left(text, scopes, owner, depth, inner.get(), room)
+            room_left(patterns, owner, depth, inner.get(), room)
         }
-        PatternTree::Sym { name, args } => match seen(text, scopes, owner, name) {
+        PatternTree::Sym { name, args } => match seen(patterns.text, patterns.scopes, owner, name) {
             Some(Seen::Symbol { .. }) => {
                 let room = taken(room, 1)?;
-                room_for_arguments(text, scopes, owner, depth, args.as_slice(), room)
+                room_for_arguments(patterns, owner, depth, args.as_slice(), room)
             }
             Some(Seen::Pattern { module, item }) => {
-                match resolved(text, scopes, module, item, depth) {
+                match resolved(patterns, module, item, depth) {
                     Some(inner) => {
-                        room_left(text, scopes, inner.owner, inner.depth, inner.tree, room)
+                        room_left(patterns, inner.owner, inner.depth, inner.tree, room)
                     }
                     None => taken(room, 1),
                 }
@@ -90,46 +90,44 @@ pub fn room_left(
         },
         PatternTree::Chain { first, rest } => {
             let room = taken(room, rest.len())?;
-            let room = room_left(text, scopes, owner, depth, first.get(), room)?;
-            room_for_links(text, scopes, owner, depth, rest.as_slice(), room)
+            let room = room_left(patterns, owner, depth, first.get(), room)?;
+            room_for_links(patterns, owner, depth, rest.as_slice(), room)
         }
     }
 }
 
 #[cycle(counting)]
 fn room_for_arguments(
-    text: &Text,
-    scopes: &Scopes,
+    patterns: &NamedPatterns,
     owner: usize,
     depth: usize,
     args: &[PatternTree],
     room: usize,
 ) -> Option<usize>
-    requires { IsScopesOf text.now scopes.now }
-    ensures { spec.Leaves room (sum_by (spec.inner_nodes text.now owner depth) args.now) result }
+    requires { AreNamed patterns.now }
+    ensures { spec.Leaves room (sum_by (spec.inner_nodes patterns.now.text.now owner depth) args.now) result }
 {
     let mut left = room;
     for argument in args {
-        left = room_left(text, scopes, owner, depth, argument, left)?;
+        left = room_left(patterns, owner, depth, argument, left)?;
     }
     Some(left)
 }
 
 #[cycle(counting)]
 fn room_for_links(
-    text: &Text,
-    scopes: &Scopes,
+    patterns: &NamedPatterns,
     owner: usize,
     depth: usize,
     rest: &[(Sign, PatternTree)],
     room: usize,
 ) -> Option<usize>
-    requires { IsScopesOf text.now scopes.now }
-    ensures { spec.Leaves room (sum_by (spec.link_nodes text.now owner depth) rest.now) result }
+    requires { AreNamed patterns.now }
+    ensures { spec.Leaves room (sum_by (spec.link_nodes patterns.now.text.now owner depth) rest.now) result }
 {
     let mut left = room;
     for link in rest {
-        left = room_left(text, scopes, owner, depth, &link.1, left)?;
+        left = room_left(patterns, owner, depth, &link.1, left)?;
     }
     Some(left)
 }

@@ -1,21 +1,22 @@
 //! Named patterns that reach themselves.
 
-ghost use Rattle.std.specs.Prelude.{◌≡◌, ◌↔◌, ◌++◌, true, All, Contains, IsTrue, OnOk, IfOk};
+ghost use Rattle.std.specs.Prelude.{◌≡◌, ◌↔◌, ◌++◌, IsTrue, OnOk, IfOk};
 ghost use Rattle.dactl_syntax.specs.Faults.{TellsFaults};
 ghost use Rattle.dactl_syntax.specs.Meaning.{CycleFault};
 ghost use Rattle.dactl_symbols.specs.Least.{TellsLeast};
 ghost use Rattle.dactl_symbols.specs.Scoping.{IsScopesOf};
 ghost use Rattle.dactl_patterns.specs.Cycling as spec;
-ghost use Rattle.dactl_patterns.specs.Settling.{IsGrounded};
-ghost use Rattle.dactl_patterns.specs.Cycles.{declared_at, declared_from, all_declared, DeclaredCycle, SomeCycle};
+ghost use Rattle.dactl_patterns.specs.Levels.{IsDescending, level_in};
+ghost use Rattle.dactl_patterns.specs.Cycles.{declared_at, declared_from, all_declared, DeclaredCycle, SomeCycle, stands_behind};
 
+use crate::levels::{is_free, levels};
 use crate::uses::named_from;
 use dactl_base::refusal::{Kind, Place, Refusal, TextFault};
 use dactl_model::Memory;
 use dactl_symbols::least::lesser;
 use dactl_symbols::sight::Scopes;
 use dactl_syntax::tree::{Item, Text};
-use indexmap::IndexSet;
+use indexmap::{IndexMap, IndexSet};
 use std::alloc::Global;
 
 /// A named pattern of a text: the numbers of its module and of its item there, and where its name
@@ -98,71 +99,19 @@ fn reaches_itself(
     Ok(reached.contains(&(owner, item)))
 }
 
-/// Whether all of the named patterns are settled.
-fn are_settled(settled: &IndexSet<(usize, usize)>, names: &[(usize, usize)]) -> bool
-    ensures { result ≡ true → All (Contains settled.now.keys) names.now }
-{
-    for name in names {
-        if !settled.contains(name) {
-            return false;
-        }
-    }
-    true
-}
-
-/// Settles the named pattern if all that it names is settled. What is settled reaches no cycle.
-fn settle(
-    alloc: Global,
-    text: &Text,
-    scopes: &Scopes,
-    pattern: Declared,
-    settled: &mut IndexSet<(usize, usize)>,
-) -> Result<(), Memory>
-    requires scopes { IsScopesOf text.now scopes.now }
-    requires before { IsGrounded text.now settled.old.keys }
-    ensures { OnOk result (IsGrounded text.now settled.new.keys) }
-{
-    let names = named_from(alloc, text, scopes, pattern.owner, pattern.item)?;
-    if !are_settled(settled, names.as_slice()) {
-        return Ok(());
-    }
-    settled.insert((pattern.owner, pattern.item))?;
-    Ok(())
-}
-
-/// Settles what it can, in two passes: from the first named pattern on, and from the last one back.
-/// So a text is settled in which each names those before it alone, or those after it alone.
-fn settled(
-    alloc: Global,
-    text: &Text,
-    scopes: &Scopes,
-    patterns: &[Declared],
-) -> Result<IndexSet<(usize, usize)>, Memory>
-    requires { IsScopesOf text.now scopes.now }
-    ensures { IfOk result (λ settled. IsGrounded text.now settled.keys) }
-{
-    let mut settled = IndexSet::new(alloc);
-    for pattern in patterns {
-        settle(alloc, text, scopes, *pattern, &mut settled)?;
-    }
-    for pattern in patterns.iter().rev() {
-        settle(alloc, text, scopes, *pattern, &mut settled)?;
-    }
-    Ok(settled)
-}
-
 fn cycle_at(
     alloc: Global,
     text: &Text,
     scopes: &Scopes,
-    settled: &IndexSet<(usize, usize)>,
+    levels: &IndexMap<(usize, usize), usize>,
     pattern: Declared,
 ) -> Result<Option<Refusal>, Memory>
     requires scopes { IsScopesOf text.now scopes.now }
-    requires settled { IsGrounded text.now settled.now.keys }
+    requires levels { IsDescending text.now (level_in levels.now) }
     ensures { IfOk result (TellsLeast (DeclaredCycle text.now pattern)) }
 {
-    if settled.contains(&(pattern.owner, pattern.item)) {
+    let this = (pattern.owner, pattern.item);
+    if is_free(alloc, text, scopes, levels, this)? {
         return Ok(None);
     }
     if reaches_itself(alloc, text, scopes, pattern.owner, pattern.item)? {
@@ -174,19 +123,33 @@ fn cycle_at(
     Ok(None)
 }
 
+/// Whether the named pattern stands behind the fault.
+fn is_behind(pattern: Declared, fault: Option<Refusal>) -> bool
+    ensures { result ≡ stands_behind pattern.place.byte fault }
+{
+    match fault {
+        Some(refusal) => refusal.place.byte < pattern.place.byte,
+        None => false,
+    }
+}
+
 fn first_cycle(
     alloc: Global,
     text: &Text,
     scopes: &Scopes,
+    levels: &IndexMap<(usize, usize), usize>,
     patterns: &[Declared],
 ) -> Result<Option<Refusal>, Memory>
-    requires { IsScopesOf text.now scopes.now }
+    requires scopes { IsScopesOf text.now scopes.now }
+    requires levels { IsDescending text.now (level_in levels.now) }
     ensures { IfOk result (TellsLeast (SomeCycle text.now patterns.now)) }
 {
-    let settled = settled(alloc, text, scopes, patterns)?;
     let mut first = None;
     for pattern in patterns {
-        let here = cycle_at(alloc, text, scopes, &settled, *pattern)?;
+        if is_behind(*pattern, first) {
+            continue;
+        }
+        let here = cycle_at(alloc, text, scopes, levels, *pattern)?;
         first = lesser(first, here);
     }
     Ok(first)
@@ -199,7 +162,8 @@ pub fn cycles(alloc: Global, text: &Text, scopes: &Scopes) -> Result<(), TextFau
     ensures { TellsFaults (CycleFault text.now) result }
 {
     let patterns = declarations(alloc, text)?;
-    match first_cycle(alloc, text, scopes, patterns.as_slice())? {
+    let levels = levels(alloc, text, scopes, patterns.as_slice())?;
+    match first_cycle(alloc, text, scopes, &levels, patterns.as_slice())? {
         Some(refusal) => Err(TextFault::Refused(refusal)),
         None => Ok(()),
     }

@@ -3,15 +3,16 @@
 ghost use Rattle.std.specs.Prelude.{◌≡◌, ◌<◌, length, map, IfOk};
 ghost use Rattle.dactl_syntax.specs.Sight.{sees};
 ghost use Rattle.dactl_syntax.specs.Expansion as spec;
-ghost use Rattle.dactl_symbols.specs.Scoping.{IsScopesOf};
 ghost use Rattle.dactl_patterns.specs.Expanding.{numbered, expansion, link_expansion};
+ghost use Rattle.dactl_patterns.specs.NamedPatterns.{AreNamed};
 
+use crate::named::NamedPatterns;
 use crate::names::number;
 use crate::standing::{resolved, seen};
 use dactl_model::Memory;
 use dactl_model::program::Pat;
-use dactl_symbols::sight::{Scopes, Seen};
-use dactl_syntax::tree::{Name, PatternTree, Sign, Text};
+use dactl_symbols::sight::Seen;
+use dactl_syntax::tree::{Name, PatternTree, Sign};
 use sqlite_items::{Boxed, Items};
 use std::alloc::Global;
 
@@ -50,17 +51,16 @@ fn join(alloc: Global, sign: Sign, left: Pat, right: Pat) -> Result<Pat, Memory>
 #[cycle(expanding)]
 pub fn expand(
     alloc: Global,
-    text: &Text,
-    scopes: &Scopes,
+    patterns: &NamedPatterns,
     variables: &[Items<u8>],
     bound: bool,
     owner: usize,
     depth: usize,
     tree: &PatternTree,
 ) -> Result<Pat, Memory>
-    requires scopes { IsScopesOf text.now scopes.now }
+    requires patterns { AreNamed patterns.now }
     requires few { length variables.now < 256 }
-    ensures { IfOk result (λ p. p ≡ expansion text.now owner depth (numbered bound variables.now) tree.now) }
+    ensures { IfOk result (λ p. p ≡ expansion patterns.now.text.now owner depth (numbered bound variables.now) tree.now) }
 {
     match tree {
         PatternTree::Any => Ok(Pat::Any),
@@ -68,24 +68,14 @@ pub fn expand(
         PatternTree::Integer { value } => Ok(Pat::Literal(*value)),
         PatternTree::Variable { name } => at_variable(alloc, variables, bound, name, Pat::Any),
         PatternTree::Binder { name, inner } => {
-            let inner = expand(
-                alloc,
-                text,
-                scopes,
-                variables,
-                bound,
-                owner,
-                depth,
-                inner.get(),
-            )?;
+            let inner = expand(alloc, patterns, variables, bound, owner, depth, inner.get())?;
             at_variable(alloc, variables, bound, name, inner)
         }
-        PatternTree::Sym { name, args } => match seen(text, scopes, owner, name) {
+        PatternTree::Sym { name, args } => match seen(patterns.text, patterns.scopes, owner, name) {
             Some(Seen::Symbol { id, .. }) => {
                 let args = expand_arguments(
                     alloc,
-                    text,
-                    scopes,
+                    patterns,
                     variables,
                     bound,
                     owner,
@@ -95,11 +85,10 @@ pub fn expand(
                 Ok(Pat::Sym { symbol: id, args })
             }
             Some(Seen::Pattern { module, item }) => {
-                match resolved(text, scopes, module, item, depth) {
+                match resolved(patterns, module, item, depth) {
                     Some(inner) => expand(
                         alloc,
-                        text,
-                        scopes,
+                        patterns,
                         variables,
                         false,
                         inner.owner,
@@ -112,20 +101,10 @@ pub fn expand(
             None => Ok(Pat::Any),
         },
         PatternTree::Chain { first, rest } => {
-            let first = expand(
-                alloc,
-                text,
-                scopes,
-                variables,
-                bound,
-                owner,
-                depth,
-                first.get(),
-            )?;
+            let first = expand(alloc, patterns, variables, bound, owner, depth, first.get())?;
             expand_links(
                 alloc,
-                text,
-                scopes,
+                patterns,
                 variables,
                 bound,
                 owner,
@@ -140,34 +119,30 @@ pub fn expand(
 #[cycle(expanding)]
 fn expand_arguments(
     alloc: Global,
-    text: &Text,
-    scopes: &Scopes,
+    patterns: &NamedPatterns,
     variables: &[Items<u8>],
     bound: bool,
     owner: usize,
     depth: usize,
     args: &[PatternTree],
 ) -> Result<Items<Pat>, Memory>
-    requires scopes { IsScopesOf text.now scopes.now }
+    requires patterns { AreNamed patterns.now }
     requires few { length variables.now < 256 }
-    ensures { IfOk result (λ ps. ps ≡ map (expansion text.now owner depth (numbered bound variables.now)) args.now) }
+    ensures { IfOk result (λ ps. ps ≡ map (expansion patterns.now.text.now owner depth (numbered bound variables.now)) args.now) }
 {
-    let mut patterns = Items::new(alloc);
+    let mut expanded = Items::new(alloc);
     for argument in args {
-        let pattern = expand(
-            alloc, text, scopes, variables, bound, owner, depth, argument,
-        )?;
-        patterns.push(pattern)?;
+        let pattern = expand(alloc, patterns, variables, bound, owner, depth, argument)?;
+        expanded.push(pattern)?;
     }
-    Ok(patterns)
+    Ok(expanded)
 }
 
 /// Folds the links of a chain onto its first pattern, to the left.
 #[cycle(expanding)]
 fn expand_links(
     alloc: Global,
-    text: &Text,
-    scopes: &Scopes,
+    patterns: &NamedPatterns,
     variables: &[Items<u8>],
     bound: bool,
     owner: usize,
@@ -175,13 +150,13 @@ fn expand_links(
     first: Pat,
     rest: &[(Sign, PatternTree)],
 ) -> Result<Pat, Memory>
-    requires scopes { IsScopesOf text.now scopes.now }
+    requires patterns { AreNamed patterns.now }
     requires few { length variables.now < 256 }
-    ensures { IfOk result (λ p. p ≡ spec.chain first (map (link_expansion text.now owner depth (numbered bound variables.now)) rest.now)) }
+    ensures { IfOk result (λ p. p ≡ spec.chain first (map (link_expansion patterns.now.text.now owner depth (numbered bound variables.now)) rest.now)) }
 {
     let mut folded = first;
     for link in rest {
-        let right = expand(alloc, text, scopes, variables, bound, owner, depth, &link.1)?;
+        let right = expand(alloc, patterns, variables, bound, owner, depth, &link.1)?;
         folded = join(alloc, link.0, folded, right)?;
     }
     Ok(folded)

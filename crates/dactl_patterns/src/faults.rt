@@ -13,6 +13,7 @@ use crate::occurrences::Occurrence;
 use dactl_base::refusal::{Kind, Place, Refusal, TextFault};
 use dactl_symbols::least::lesser;
 use dactl_syntax::tree::{PatternTree, Sign};
+use indexmap::IndexSet;
 use std::alloc::{AllocError, Global};
 
 /// How many arguments a symbol may have.
@@ -53,11 +54,11 @@ fn binders(
 
 fn note_given<'a>(
     faults: &mut Vec<Refusal>,
-    names: &mut Vec<&'a [u8]>,
+    names: &mut IndexSet<&'a [u8]>,
     occurrence: Occurrence<'a>,
 ) -> Result<(), AllocError>
-    ensures faults { OnOk result (faults.new.items ≡ faults.old.items ++ spec.twice_fault (words names.old.items) (seen occurrence.entry)) }
-    ensures names { OnOk result (words names.new.items ≡ spec.given_after (words names.old.items) (seen occurrence.entry)) }
+    ensures faults { OnOk result (faults.new.items ≡ faults.old.items ++ spec.twice_fault (words names.old.keys) (seen occurrence.entry)) }
+    ensures names { OnOk result (words names.new.keys ≡ spec.given_after (words names.old.keys) (seen occurrence.entry)) }
 {
     if occurrence.given {
         let added = add(names, occurrence.name.text.as_slice())?;
@@ -74,7 +75,7 @@ fn named_twice(
 ) -> Result<(), AllocError>
     ensures { OnOk result (faults.new.items ≡ faults.old.items ++ spec.twice_faults [] (map seen occurrences.now)) }
 {
-    let mut names = Vec::new(alloc);
+    let mut names = IndexSet::new(alloc);
     for occurrence in occurrences {
         note_given(faults, &mut names, *occurrence)?;
     }

@@ -2,17 +2,22 @@
 //! patterns are replaced by what they stand for; and named patterns that reach themselves.
 #![tactic(auto)]
 
-pub mod counting;
+mod chains;
+mod counting;
 mod cycling;
 mod expanding;
 mod faults;
+mod heads;
+mod leads;
+mod levels;
+mod named;
 pub mod names;
 pub mod occurrences;
 mod patterns;
 mod standing;
-#[cfg(test)]
-mod tests;
 mod uses;
 
 pub use cycling::cycles;
-pub use patterns::{Expanded, pattern};
+pub use heads::head_symbol;
+pub use named::{NamedPatterns, named_patterns};
+pub use patterns::{Expanded, expansion_of, pattern};

@@ -5,36 +5,25 @@ ghost use Rattle.dactl_syntax.specs.Expansion.{is_among, each_once, number_in};
 ghost use Rattle.dactl_patterns.specs.Naming.{words, names_in, with_name};
 
 use crate::occurrences::Occurrence;
+use indexmap::IndexSet;
 use sqlite_items::Items;
 use std::alloc::{AllocError, Global};
 
-fn is_one_of(names: &[&[u8]], name: &[u8]) -> bool
-    ensures { result ≡ is_among (words names.now) name.now }
-{
-    for other in names {
-        if *other == name {
-            return true;
-        }
-    }
-    false
-}
-
 /// Adds the name, unless it is there already, and answers whether it was added.
-pub fn add<'a>(names: &mut Vec<&'a [u8]>, name: &'a [u8]) -> Result<bool, AllocError>
-    ensures added { IfOk result (λ added. added ≡ not (is_among (words names.old.items) name.now)) }
-    ensures names { OnOk result (words names.new.items ≡ with_name (words names.old.items) name.now) }
+pub fn add<'a>(names: &mut IndexSet<&'a [u8]>, name: &'a [u8]) -> Result<bool, AllocError>
+    ensures added { IfOk result (λ added. added ≡ not (is_among (words names.old.keys) name.now)) }
+    ensures names { OnOk result (words names.new.keys ≡ with_name (words names.old.keys) name.now) }
 {
-    if is_one_of(names, name) {
-        return Ok(false);
-    }
-    names.push(name)?;
-    Ok(true)
+    Ok(names.insert(name)?)
 }
 
-fn distinct<'a>(alloc: Global, occurrences: &[Occurrence<'a>]) -> Result<Vec<&'a [u8]>, AllocError>
-    ensures { IfOk result (λ names. words names.items ≡ each_once (names_in occurrences.now)) }
+fn distinct<'a>(
+    alloc: Global,
+    occurrences: &[Occurrence<'a>],
+) -> Result<IndexSet<&'a [u8]>, AllocError>
+    ensures { IfOk result (λ names. words names.keys ≡ each_once (names_in occurrences.now)) }
 {
-    let mut names = Vec::new(alloc);
+    let mut names = IndexSet::new(alloc);
     for occurrence in occurrences {
         let _ = add(&mut names, occurrence.name.text.as_slice())?;
     }

@@ -17,7 +17,8 @@ pub struct Occurrence<'a> {
     pub in_choice: bool,
 }
 
-fn has_plus(rest: &[(Sign, PatternTree)]) -> bool
+/// Whether a `+` stands among these links of a chain.
+pub fn has_plus(rest: &[(Sign, PatternTree)]) -> bool
     ensures { result ≡ spec.has_plus rest.now }
 {
     for link in rest {

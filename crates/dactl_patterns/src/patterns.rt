@@ -7,10 +7,12 @@ ghost use Rattle.dactl_syntax.specs.RuleFaults.{pattern_faults, is_too_wide};
 ghost use Rattle.dactl_symbols.specs.Scoping.{IsScopesOf};
 ghost use Rattle.dactl_patterns.specs.Occurring.{seen};
 ghost use Rattle.dactl_patterns.specs.Expanded.{IsExpanded};
+ghost use Rattle.dactl_patterns.specs.NamedPatterns.{AreNamed};
 
-use crate::counting::{named_count, room_left};
+use crate::counting::room_left;
 use crate::expanding::expand;
 use crate::faults::tell;
+use crate::named::{NamedPatterns, named_patterns};
 use crate::names::variables;
 use crate::occurrences::{Occurrence, occurrences};
 use dactl_base::refusal::{Place, TextFault};
@@ -42,20 +44,17 @@ fn places<'a>(alloc: Global, tree: &'a PatternTree) -> Result<Vec<Occurrence<'a>
 }
 
 fn is_large(
-    text: &Text,
-    scopes: &Scopes,
+    patterns: &NamedPatterns,
     owner: usize,
-    depth: usize,
     named: bool,
     variables: &[Items<u8>],
     tree: &PatternTree,
 ) -> bool
-    requires scopes { IsScopesOf text.now scopes.now }
-    requires depth { depth ≡ spec.named_count text.now }
+    requires patterns { AreNamed patterns.now }
     requires variables { variables.now ≡ spec.variables_of tree.now }
-    ensures { result ≡ is_too_wide named (spec.pattern_expansion text.now owner tree.now) tree.now }
+    ensures { result ≡ is_too_wide named (spec.pattern_expansion patterns.now.text.now owner tree.now) tree.now }
 {
-    room_left(text, scopes, owner, depth, tree, MOST_NODES).is_none()
+    room_left(patterns, owner, patterns.count, tree, MOST_NODES).is_none()
         || (!named && variables.len() > MOST_VARIABLES)
 }
 
@@ -64,6 +63,35 @@ fn is_large(
 /// `TooWide`. `named` says that the pattern is that of a named pattern, in which no variable may
 /// stand. A `TooWide` of the whole pattern is told at `place`. The faults of the named patterns that
 /// it uses are not looked for.
+pub fn expansion_of(
+    alloc: Global,
+    patterns: &NamedPatterns,
+    owner: usize,
+    named: bool,
+    place: Place,
+    tree: &PatternTree,
+) -> Result<Expanded, TextFault>
+    requires { AreNamed patterns.now }
+    ensures faults { TellsFaults (Contains (pattern_faults patterns.now.text.now owner named place.byte tree.now)) result }
+    ensures expanded { IfOk result (IsExpanded patterns.now.text.now owner named tree.now) }
+{
+    let found = places(alloc, tree)?;
+    let variables = variables(alloc, found.as_slice())?;
+    let large = is_large(patterns, owner, named, variables.as_slice(), tree);
+    tell(alloc, found.as_slice(), tree, named, large, place)?;
+    let pat = expand(
+        alloc,
+        patterns,
+        variables.as_slice(),
+        !named,
+        owner,
+        patterns.count,
+        tree,
+    )?;
+    Ok(Expanded { pat, variables })
+}
+
+/// `expansion_of` for one pattern alone: it looks through the named patterns of the text first.
 pub fn pattern(
     alloc: Global,
     text: &Text,
@@ -77,28 +105,6 @@ pub fn pattern(
     ensures faults { TellsFaults (Contains (pattern_faults text.now owner named place.byte tree.now)) result }
     ensures expanded { IfOk result (IsExpanded text.now owner named tree.now) }
 {
-    let depth = named_count(text)?;
-    let found = places(alloc, tree)?;
-    let variables = variables(alloc, found.as_slice())?;
-    let large = is_large(
-        text,
-        scopes,
-        owner,
-        depth,
-        named,
-        variables.as_slice(),
-        tree,
-    );
-    tell(alloc, found.as_slice(), tree, named, large, place)?;
-    let pat = expand(
-        alloc,
-        text,
-        scopes,
-        variables.as_slice(),
-        !named,
-        owner,
-        depth,
-        tree,
-    )?;
-    Ok(Expanded { pat, variables })
+    let patterns = named_patterns(alloc, text, scopes)?;
+    expansion_of(alloc, &patterns, owner, named, place, tree)
 }

@@ -11,7 +11,10 @@ ghost use Rattle.dactl_syntax.specs.Sight.{sees};
 ghost use Rattle.dactl_syntax.specs.Expansion.{named_expansion, expansion_by};
 ghost use Rattle.dactl_symbols.specs.Scoping.{IsScopesOf, told};
 ghost use Rattle.dactl_patterns.specs.Standing as spec;
+ghost use Rattle.dactl_patterns.specs.NamedPatterns.{AreNamed};
 
+use crate::leads::lead_at;
+use crate::named::NamedPatterns;
 use dactl_symbols::sight::{Scopes, Seen};
 use dactl_syntax::tree::{Item, Name, PatternTree, Text};
 
@@ -53,43 +56,25 @@ fn bare(tree: &PatternTree) -> &PatternTree
     }
 }
 
-/// The named pattern that the pattern is, if it is no more than the name of one.
-fn alias(text: &Text, scopes: &Scopes, owner: usize, tree: &PatternTree) -> Option<(usize, usize)>
-    requires { IsScopesOf text.now scopes.now }
-    ensures { IfSome result (λ p. (expansion : ℕ → ℕ → Pat) → expansion_by (sees text.now owner) expansion None tree.now ≡ expansion p.0 p.1) }
-{
-    match tree {
-        PatternTree::Sym { name, .. } => match seen(text, scopes, owner, name) {
-            Some(Seen::Pattern { module, item }) => Some((module, item)),
-            _ => None,
-        },
-        _ => None,
-    }
-}
-
 /// What the named pattern is, past all named patterns that are no more than the names of others.
 pub fn resolved<'a>(
-    text: &'a Text,
-    scopes: &Scopes,
+    patterns: &NamedPatterns<'a>,
     owner: usize,
     item: usize,
     depth: usize,
 ) -> Option<Standing<'a>>
-    requires { IsScopesOf text.now scopes.now }
-    ensures expansion { MatchOption result (named_expansion text.now depth owner item ≡ roll-Pat Pat-F.Any) (λ s. named_expansion text.now depth owner item ≡ spec.inner_expansion text.now s.owner s.depth s.tree.now) }
+    requires { AreNamed patterns.now }
+    ensures expansion { MatchOption result (named_expansion patterns.now.text.now depth owner item ≡ roll-Pat Pat-F.Any) (λ s. named_expansion patterns.now.text.now depth owner item ≡ spec.inner_expansion patterns.now.text.now s.owner s.depth s.tree.now) }
     ensures depth { IfSome result (λ s. s.depth < depth) }
-    ensures weight { IfSome result (λ s. spec.weight s.tree.now ≤ spec.text_weight text.now) }
+    ensures weight { IfSome result (λ s. spec.weight s.tree.now ≤ spec.text_weight patterns.now.text.now) }
 {
-    let (mut owner, mut item, mut depth) = (owner, item, depth);
-    'aliases: while depth > 0 {
-        depth -= 1;
-        let tree = bare(named_tree(text, owner, item)?);
-        match alias(text, scopes, owner, tree) {
-            Some(next) => {
-                (owner, item) = next;
-            }
-            None => return Some(Standing { owner, depth, tree }),
-        }
-    }
-    None
+    let lead = lead_at(patterns.aliases.as_slice(), owner, item);
+    let left = depth.checked_sub(lead.steps)?;
+    let below = left.checked_sub(1)?;
+    let tree = bare(named_tree(patterns.text, lead.owner, lead.item)?);
+    Some(Standing {
+        owner: lead.owner,
+        depth: below,
+        tree,
+    })
 }

@@ -9,10 +9,10 @@ use Rattle.dactl_patterns.proofs.cycling.cycles.Goals as goal
 
 pub returns-in-Some : goal.returns-in-Some
 returns-in-Some c =
-    let told = subst (λ (l : List Declared). TellsLeast (SomeCycle c.args.text.now l) c.in_ok-refusal.field-0) (c.as_slice.ensures.value ∙ c.in_ok-patterns.ensures) c.in_ok-refusal.ensures in
+    let told = subst (λ (l : List Declared). TellsLeast (SomeCycle c.args.text.now l) c.in_ok-refusal.field-0) (c.as_slice-2.ensures.value ∙ c.in_ok-patterns.ensures) c.in_ok-refusal.ensures in
     subst (λ (o : Option Refusal). TellsLeast (CycleFault c.args.text.now) o) c.in-Some.is (text_told c.args.text.now c.in_ok-refusal.field-0 told)
 
 pub returns : goal.returns
 returns c =
-    let told = subst (λ (l : List Declared). TellsLeast (SomeCycle c.args.text.now l) c.in_ok-refusal.field-0) (c.as_slice.ensures.value ∙ c.in_ok-patterns.ensures) c.in_ok-refusal.ensures in
+    let told = subst (λ (l : List Declared). TellsLeast (SomeCycle c.args.text.now l) c.in_ok-refusal.field-0) (c.as_slice-2.ensures.value ∙ c.in_ok-patterns.ensures) c.in_ok-refusal.ensures in
     subst (λ (o : Option Refusal). TellsLeast (CycleFault c.args.text.now) o) c.in-None.is (text_told c.args.text.now c.in_ok-refusal.field-0 told)

@@ -6,4 +6,4 @@ use Rattle.dactl_patterns.proofs.faults.named_twice.Given as goal
 
 -- what is found, and what the rest will add, is all
 abbrev pub invariant-loop-occurrence : goal.invariant-loop-occurrence
-invariant-loop-occurrence l = l.faults.items ++ twice_faults (words l.names.items) (map seen (drop l.occurrence-index l.occurrences)) ≡ l.initial.faults.items ++ twice_faults [] (map seen l.occurrences)
+invariant-loop-occurrence l = l.faults.items ++ twice_faults (words l.names.keys) (map seen (drop l.occurrence-index l.occurrences)) ≡ l.initial.faults.items ++ twice_faults [] (map seen l.occurrences)
