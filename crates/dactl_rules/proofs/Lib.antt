@@ -5,7 +5,7 @@ pub mod Twice
 pub mod ToldFaults
 pub mod Least
 pub mod Meanings
-pub mod Heads
+pub mod RootNames
 pub mod Writings
 pub mod LeftSides
 pub mod ValidTests
@@ -23,5 +23,5 @@ pub mod ValidPrograms
 pub mod Late
 pub mod WholeRules
 pub mod Listings
-pub mod Rulings
+pub mod RuleLists
 pub mod WholePrograms

@@ -17,6 +17,7 @@ use Rattle.dactl_syntax.specs.RuleFaults.{each_at, again, place_of, core_names, 
 use Rattle.dactl_rules.specs.Numbers.{node_number, variable_number}
 use Rattle.dactl_rules.specs.Told.{fault_at, core_fault, wide_at, names_pattern, creatable_at, waits_at, waits_fault, unbound_at, mark_fault, mark_at, drawn_faults}
 use Rattle.dactl_rules.proofs.Tables.{is_some-first}
+use Rattle.dactl_rules.proofs.ValidTests.{or_assoc}
 
 -- ---- lists
 
@@ -133,10 +134,6 @@ marks_told bound variable among is_variable same alike mentions =
     ∙ ap (each_at kinds.MarkOnBound) (flat_kept (λ (m : MentionTree). among m.name.text) (λ (m : MentionTree). mark_on_bound (is_variable m.name.text) m.marks) mentions)
 
 -- ---- which names are bound
-
-or_assoc : (a b c : Bool) → ((a || b) || c) ≡ (a || (b || c))
-or_assoc true b c = refl
-or_assoc false b c = refl
 
 among-append : (xs ys : List (List ℕ)) (w : List ℕ) → is_among (xs ++ ys) w ≡ (is_among xs w || is_among ys w)
 among-append [] ys w = refl

@@ -24,9 +24,10 @@ use Rattle.dactl_syntax.specs.Declarations.{named_pattern}
 use Rattle.dactl_syntax.specs.Sight.{Seen, SeenSymbol, SeenPattern, sees}
 use Rattle.dactl_syntax.specs.Uses.{Use, joined, pattern_uses, pattern_uses_level}
 use Rattle.dactl_syntax.specs.Expansion.{Occurrence, is_plus, has_plus, occurrences_in, occurrences_level, at_name, at_variable, join, chain, expansion_level, expansion_by, expansion_of, named_expansion, number_in}
-use Rattle.dactl_rules.proofs.ValidLists.{In, Each, in_left, in_right, in_either}
+use Rattle.dactl_rules.proofs.ValidLists.{In, in_left, in_right, in_either}
 use Rattle.dactl_rules.proofs.ValidTests.{both, or_left, or_right, or_false, or_assoc, neither, not_either, not_true, test_below}
-use Rattle.dactl_rules.proofs.ValidTrees.{EachLink, pattern_induction}
+use Rattle.dactl_patterns.proofs.Induction.{Each, EachLink, pattern_induction}
+use Rattle.dactl_patterns.proofs.Layers.{plus_kept}
 
 -- ---- what holds of each pattern of which an expansion is made
 
@@ -201,11 +202,6 @@ occurs x choice = ap (λ (f : Bool → List Occurrence). f choice) (fold-roll-Pa
 
 pub uses_of : (x : PatternTree-F PatternTree) → pattern_uses (roll-PatternTree x) ≡ pattern_uses_level (map-PatternTree PatternTree (List Use) pattern_uses x)
 uses_of x = fold-roll-PatternTree (List Use) pattern_uses_level x
-
--- the signs stay where the patterns between them change
-plus_kept : {A B : Type 0} (f : A → B) (rest : List (Sign × A)) → has_plus (map (λ l. (l.0, f l.1)) rest) ≡ has_plus rest
-plus_kept f [] = refl
-plus_kept f (l ∷ rest) = ap (λ (b : Bool). is_plus l.0 || b) (plus_kept f rest)
 
 -- what holds where no binder may stand, holds where it may
 stays_all : (args : List Pat) → EachPat (λ p. allows p false ≡ true → allows p true ≡ true) args → all_allow (map allows args) false ≡ true → all_allow (map allows args) true ≡ true

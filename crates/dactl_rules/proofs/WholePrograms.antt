@@ -28,16 +28,16 @@ use Rattle.dactl_syntax.specs.Sight.{Seen, sees}
 use Rattle.dactl_symbols.specs.Least.{sooner, TellsLeast}
 use Rattle.dactl_symbols.specs.Scoping.{seen_in, symbols_in, IsScopesOf}
 use Rattle.dactl_symbols.specs.Sights.{Sights}
-use Rattle.dactl_rules.specs.declared.ruling.Ruling.{Ruling}
+use Rattle.dactl_rules.specs.declared.compiled.CompiledRules.{CompiledRules}
 use Rattle.dactl_rules.specs.Counting.{AreCountable, IsCountable}
 use Rattle.dactl_rules.specs.Drafts.{IsDraft}
 use Rattle.dactl_rules.specs.Initials.{initial_faults, initials_in, root_in, start_in, AreRead}
-use Rattle.dactl_rules.specs.Ruling.{HasRules, terms_of, groups_in, faults_in, contracta_in}
+use Rattle.dactl_rules.specs.RuleLists.{HasRules, terms_of, groups_in, faults_in, contracta_in}
 use Rattle.dactl_syntax.specs.Spelling.{IsSpelled, contracta}
 use Rattle.dactl_rules.proofs.Late.{rule_phase, cycle_phase}
 use Rattle.dactl_rules.proofs.Least.{tells_append}
 use Rattle.dactl_rules.proofs.Listings.{items_more}
-use Rattle.dactl_rules.proofs.Rulings.{none_told, both_none}
+use Rattle.dactl_rules.proofs.RuleLists.{none_told, both_none}
 use Rattle.dactl_rules.proofs.ValidPrograms.{valid_without_faults}
 
 -- ---- first graphs
@@ -137,7 +137,7 @@ look_is : (text : Text) (s : Sights) → IsScopesOf text s → seen_in s ≡ see
 look_is text s scopes = λ j m w. scopes.seen m w j
 
 -- the first of the three is the first fault of the rules
-pub draft_is : (text : Text) (s : Sights) → IsScopesOf text s → (named initial : Option Refusal) (old new : Ruling) → TellsLeast (Contains (flat_map (named_faults text) (items text))) named → HasRules text (groups text) old
+pub draft_is : (text : Text) (s : Sights) → IsScopesOf text s → (named initial : Option Refusal) (old new : CompiledRules) → TellsLeast (Contains (flat_map (named_faults text) (items text))) named → HasRules text (groups text) old
     → AreRead (seen_in s) (all_initials text) initial → new.fault ≡ sooner (sooner named old.fault) initial → new.rules ≡ old.rules → new.group ≡ old.group → IsDraft text new
 draft_is text s scopes named initial old new named_told rules_told initial_told fault rules_are group =
     let written = flat_map (λ (r : PlacedRule). rule_faults text r.owner r.rule) (rules text) in

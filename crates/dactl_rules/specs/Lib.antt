@@ -3,7 +3,6 @@ pub mod Numbers
 pub mod Terms
 pub mod Told
 pub mod Meant
-pub mod Heads
 pub mod Writing
 pub mod Lefts
 pub mod Reading
@@ -11,6 +10,6 @@ pub mod Rules
 pub mod Counting
 pub mod Validity
 pub mod Listing
-pub mod Ruling
+pub mod RuleLists
 pub mod Initials
 pub mod Drafts

@@ -11,16 +11,17 @@ ghost use Rattle.dactl_symbols.specs.Least.{TellsLeast};
 ghost use Rattle.dactl_symbols.specs.Scoping.{IsScopesOf, seen_in, symbols_in};
 ghost use Rattle.dactl_rules.specs.Initials.{initials_in, start_in};
 ghost use Rattle.dactl_rules.specs.Drafts.{IsDraft};
+ghost use Rattle.dactl_patterns.specs.NamedPatterns.{AreNamed};
 ghost use Rattle.dactl_rules.specs.Listing.{placed};
 ghost use Rattle.dactl_syntax.specs.Spelling.{IsSpelled};
 
+use crate::compiled::{CompiledRules, rules};
 use crate::initials::{initial_fault, start};
 use crate::listing::{Placed, items};
-use crate::ruling::{Ruling, rules};
 use dactl_base::refusal::{Memory, Place, Refusal, TextFault};
 use dactl_model::arithmetic::arithmetic_rule;
 use dactl_model::program::{Op, Program, Rule};
-use dactl_patterns::{cycles, pattern};
+use dactl_patterns::{NamedPatterns, cycles, expansion_of, named_patterns};
 use dactl_symbols::least::lesser;
 use dactl_symbols::sight::Scopes;
 use dactl_syntax::tree::{Item, PatternTree, Text};
@@ -32,16 +33,15 @@ const GROUP_NUMBERS: u32 = 0x8000_0000;
 
 fn pattern_fault(
     alloc: Global,
-    text: &Text,
-    scopes: &Scopes,
+    patterns: &NamedPatterns,
     owner: usize,
     place: Place,
     tree: &PatternTree,
 ) -> Result<Option<Refusal>, Memory>
-    requires { IsScopesOf text.now scopes.now }
-    ensures { IfOk result (TellsLeast (Contains (pattern_faults text.now owner true place.byte tree.now))) }
+    requires { AreNamed patterns.now }
+    ensures { IfOk result (TellsLeast (Contains (pattern_faults patterns.now.text.now owner true place.byte tree.now))) }
 {
-    match pattern(alloc, text, scopes, owner, true, place, tree) {
+    match expansion_of(alloc, patterns, owner, true, place, tree) {
         Ok(_) => Ok(None),
         Err(TextFault::Refused(refusal)) => Ok(Some(refusal)),
         Err(TextFault::Memory) => Err(AllocError),
@@ -50,19 +50,18 @@ fn pattern_fault(
 
 fn named_fault(
     alloc: Global,
-    text: &Text,
-    scopes: &Scopes,
+    patterns: &NamedPatterns,
     item: Placed,
 ) -> Result<Option<Refusal>, Memory>
-    requires { IsScopesOf text.now scopes.now }
-    ensures { IfOk result (TellsLeast (Contains (named_faults text.now (placed item.entry)))) }
+    requires { AreNamed patterns.now }
+    ensures { IfOk result (TellsLeast (Contains (named_faults patterns.now.text.now (placed item.entry)))) }
 {
     match item.item {
         Item::Named {
             name,
             pattern: tree,
             ..
-        } => pattern_fault(alloc, text, scopes, item.owner, name.place, tree),
+        } => pattern_fault(alloc, patterns, item.owner, name.place, tree),
         _ => Ok(None),
     }
 }
@@ -70,16 +69,15 @@ fn named_fault(
 /// The first fault of the named patterns among the items.
 fn first_named_fault(
     alloc: Global,
-    text: &Text,
-    scopes: &Scopes,
+    patterns: &NamedPatterns,
     items: &[Placed],
 ) -> Result<Option<Refusal>, Memory>
-    requires { IsScopesOf text.now scopes.now }
-    ensures { IfOk result (TellsLeast (Contains (flat_map (named_faults text.now) (map placed items.now)))) }
+    requires { AreNamed patterns.now }
+    ensures { IfOk result (TellsLeast (Contains (flat_map (named_faults patterns.now.text.now) (map placed items.now)))) }
 {
     let mut least = None;
     for item in items {
-        let here = named_fault(alloc, text, scopes, *item)?;
+        let here = named_fault(alloc, patterns, *item)?;
         least = lesser(least, here);
     }
     Ok(least)
@@ -99,16 +97,16 @@ fn built_in(alloc: Global) -> Result<Items<Rule>, Memory>
 }
 
 /// The rules of a text, and the first fault of its named patterns, rules and first graphs.
-fn draft(alloc: Global, text: &Text, scopes: &Scopes, items: &[Placed]) -> Result<Ruling, Memory>
-    requires scopes { IsScopesOf text.now scopes.now }
-    requires items { map placed items.now ≡ items_in text.now }
-    ensures { IfOk result (IsDraft text.now) }
+fn draft(alloc: Global, patterns: &NamedPatterns, items: &[Placed]) -> Result<CompiledRules, Memory>
+    requires patterns { AreNamed patterns.now }
+    requires items { map placed items.now ≡ items_in patterns.now.text.now }
+    ensures { IfOk result (IsDraft patterns.now.text.now) }
 {
-    let named = first_named_fault(alloc, text, scopes, items)?;
-    let initial = initial_fault(alloc, scopes, items)?;
-    let mut ruling = rules(alloc, text, scopes, items)?;
-    ruling.fault = lesser(lesser(named, ruling.fault), initial);
-    Ok(ruling)
+    let named = first_named_fault(alloc, patterns, items)?;
+    let initial = initial_fault(alloc, patterns.scopes, items)?;
+    let mut compiled = rules(alloc, patterns, items)?;
+    compiled.fault = lesser(lesser(named, compiled.fault), initial);
+    Ok(compiled)
 }
 
 /// The program of these rules, behind those of the arithmetic.
@@ -142,12 +140,13 @@ pub fn program(alloc: Global, text: &Text, scopes: &Scopes) -> Result<Program, T
     ensures valid { IsSpelled text.now → NoFault (ScopeFault text.now) → IfOk result IsValid }
 {
     cycles(alloc, text, scopes)?;
+    let patterns = named_patterns(alloc, text, scopes)?;
     let items = items(alloc, text)?;
-    let Ruling {
+    let CompiledRules {
         rules: written,
         group,
         fault,
-    } = draft(alloc, text, scopes, items.as_slice())?;
+    } = draft(alloc, &patterns, items.as_slice())?;
     if let Some(refusal) = fault {
         return Err(TextFault::Refused(refusal));
     }

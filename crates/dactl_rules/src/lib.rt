@@ -1,11 +1,11 @@
 //! From the rules of a text to its program, or the first of their faults.
 #![tactic(auto)]
 
+mod compiled;
 mod compiling;
 mod contractum;
 mod drawing;
 mod faults;
-mod head;
 mod initials;
 pub mod laws;
 mod lefts;
@@ -14,10 +14,8 @@ mod meaning;
 mod numbers;
 mod overwriting;
 mod reading;
+mod roots;
 mod rule;
-mod ruling;
-#[cfg(test)]
-mod tests;
 mod variables;
 
 pub use compiling::program;

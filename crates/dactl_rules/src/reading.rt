@@ -1,21 +1,20 @@
 //! What is read of a rule before its pattern is expanded.
-ghost use Rattle.std.specs.Prelude.{◌≡◌, IfOk, IfErr, map};
-ghost use Rattle.dactl_base.specs.declared.refusal.TextFault.TheVariants as fault;
+ghost use Rattle.std.specs.Prelude.{◌≡◌, IfOk, map};
 ghost use Rattle.dactl_syntax.specs.Contractum.{term_of_part};
 ghost use Rattle.dactl_syntax.specs.Expansion as spec;
-ghost use Rattle.dactl_symbols.specs.Scoping.{IsScopesOf};
+ghost use Rattle.dactl_patterns.specs.NamedPatterns.{AreNamed};
 ghost use Rattle.dactl_rules.specs.Terms.{seen};
 ghost use Rattle.dactl_rules.specs.Reading.{IsRead};
 
 use crate::contractum::{Contractum, draw};
-use crate::head::{head_symbol, root_names};
 use crate::lefts::lefts;
+use crate::roots::root_names;
 use crate::variables::Variables;
-use dactl_base::refusal::{Memory, TextFault};
+use dactl_base::refusal::Memory;
 use dactl_patterns::names::variables;
 use dactl_patterns::occurrences::occurrences;
-use dactl_symbols::sight::Scopes;
-use dactl_syntax::tree::{Name, Part, PatternTree, RuleTree, TermTree, Text};
+use dactl_patterns::{NamedPatterns, head_symbol};
+use dactl_syntax::tree::{Name, Part, PatternTree, RuleTree, TermTree};
 use sqlite_items::Items;
 use std::alloc::Global;
 
@@ -69,16 +68,14 @@ fn roots_of(alloc: Global, tree: &PatternTree) -> Result<Variables, Memory>
 /// Reads a rule of the module.
 pub fn read<'a>(
     alloc: Global,
-    text: &'a Text,
-    scopes: &Scopes,
+    patterns: &NamedPatterns,
     owner: usize,
     tree: &'a RuleTree,
-) -> Result<RuleParts<'a>, TextFault>
-    requires { IsScopesOf text.now scopes.now }
-    ensures read { IfOk result (IsRead text.now owner tree.now) }
-    ensures err { IfErr result (λ f. f ≡ fault.Memory) }
+) -> Result<RuleParts<'a>, Memory>
+    requires { AreNamed patterns.now }
+    ensures { IfOk result (IsRead patterns.now.text.now owner tree.now) }
 {
-    let head = head_symbol(text, scopes, owner, &tree.pattern)?;
+    let head = head_symbol(patterns, owner, &tree.pattern);
     let variables = variables_of(alloc, &tree.pattern)?;
     let roots = roots_of(alloc, &tree.pattern)?;
     let lefts = lefts(alloc, tree.parts.as_slice())?;

@@ -6,7 +6,8 @@ ghost use Rattle.dactl_syntax.specs.Contractum.{term_of_part};
 ghost use Rattle.dactl_syntax.specs.Faults.{TellsFaults};
 ghost use Rattle.dactl_syntax.specs.Meaning.{rule_of};
 ghost use Rattle.dactl_syntax.specs.RuleFaults.{head_is, is_class, rule_faults};
-ghost use Rattle.dactl_symbols.specs.Scoping.{class_in, IsScopesOf};
+ghost use Rattle.dactl_symbols.specs.Scoping.{class_in};
+ghost use Rattle.dactl_patterns.specs.NamedPatterns.{AreNamed};
 ghost use Rattle.dactl_rules.specs.Counting.{AreCountable};
 ghost use Rattle.dactl_rules.specs.Terms.{IsReady, AreDrawn};
 ghost use Rattle.dactl_rules.specs.Drawing.{made_in};
@@ -20,10 +21,10 @@ use crate::reading::{RuleParts, read};
 use crate::variables::Variables;
 use dactl_base::refusal::{Kind, Memory, Refusal, TextFault};
 use dactl_model::program::{Body, Pat, Rule};
-use dactl_patterns::pattern;
+use dactl_patterns::{NamedPatterns, expansion_of};
 use dactl_symbols::least::lesser;
 use dactl_symbols::sight::Scopes;
-use dactl_syntax::tree::{Name, RuleTree, Text};
+use dactl_syntax::tree::{Name, RuleTree};
 use sqlite_items::Items;
 use std::alloc::Global;
 
@@ -154,20 +155,20 @@ fn with_pattern(
 /// A rule of the module, in the group of that number, or its first fault.
 pub fn rule(
     alloc: Global,
-    text: &Text,
-    scopes: &Scopes,
+    patterns: &NamedPatterns,
     owner: usize,
     group: u32,
     tree: &RuleTree,
 ) -> Result<Rule, TextFault>
-    requires { IsScopesOf text.now scopes.now }
-    ensures faults { TellsFaults (Contains (rule_faults text.now owner tree.now)) result }
-    ensures meaning { IfOk result (λ r. r ≡ rule_of text.now owner group tree.now) }
+    requires { AreNamed patterns.now }
+    ensures faults { TellsFaults (Contains (rule_faults patterns.now.text.now owner tree.now)) result }
+    ensures meaning { IfOk result (λ r. r ≡ rule_of patterns.now.text.now owner group tree.now) }
     ensures counts { IfOk result (λ r. AreCountable (map term_of_part tree.now.parts)) }
 {
-    let parts = read(alloc, text, scopes, owner, tree)?;
+    let scopes = patterns.scopes;
+    let parts = read(alloc, patterns, owner, tree)?;
     let faults = early_faults(alloc, scopes, owner, tree, &parts)?;
-    match pattern(alloc, text, scopes, owner, false, tree.place, &tree.pattern) {
+    match expansion_of(alloc, patterns, owner, false, tree.place, &tree.pattern) {
         Ok(expanded) => with_pattern(
             alloc,
             scopes,

@@ -6,4 +6,4 @@ use Rattle.dactl_rules.specs.Listing.{placed}
 use Rattle.dactl_rules.proofs.compiling.first_named_fault.Given as goal
 
 abbrev pub invariant-loop-item : goal.invariant-loop-item
-invariant-loop-item l = TellsLeast (Contains (flat_map (named_faults l.text) (map placed (take l.item-index l.items)))) l.least
+invariant-loop-item l = TellsLeast (Contains (flat_map (named_faults l.patterns.text.now) (map placed (take l.item-index l.items)))) l.least

@@ -7,5 +7,5 @@ use Rattle.dactl_rules.proofs.compiling.named_fault.Goals as goal
 pub returns-in-Named : goal.returns-in-Named
 returns-in-Named c =
     subst (λ l. IfOk c.pattern_fault.result (TellsLeast (Contains l)))
-    (sym (ap (λ i. named_faults c.args.text.now (record { owner = c.args.item.owner; number = c.args.item.number; item = i })) c.in-Named.is))
+    (sym (ap (λ i. named_faults c.args.patterns.now.text.now (record { owner = c.args.item.owner; number = c.args.item.number; item = i })) c.in-Named.is))
     c.pattern_fault.ensures

@@ -1,9 +1,12 @@
 use Rattle.std.proofs.Common.{◌≡◌, ◌∙◌, ◌<◌, ◌⊎◌, ◌++◌, ℕ, List, Option, None, map, ap, sym, subst, inl, inr}
 use Rattle.std.proofs.lemmas.Result.{err_from_is_err_and}
 use Rattle.dactl_model.specs.Programs.{IsValid}
+use Rattle.std.specs.Borrow.{Bor}
+use Rattle.dactl_syntax.specs.declared.tree.Text.{Text}
 use Rattle.dactl_syntax.specs.Declarations.{Placed, items}
 use Rattle.dactl_syntax.specs.Meaning.{RuleFault}
 use Rattle.dactl_symbols.specs.Least.{TellsLeast}
+use Rattle.dactl_rules.specs.Drafts.{IsDraft}
 use Rattle.dactl_rules.specs.Listing.{placed}
 use Rattle.dactl_rules.proofs.WholePrograms.{cycle_due, late_least, program_is, valid}
 use Rattle.dactl_rules.proofs.compiling.program.Goals as goal
@@ -15,21 +18,25 @@ returns-in_err-cycles-clause-faults c =
 
 pub returns-in-Some-clause-faults : goal.returns-in-Some-clause-faults
 returns-in-Some-clause-faults c =
-    late_least c.args.text.now c.in-Some.refusal c.in_ok-cycles.ensures (subst (TellsLeast (RuleFault c.args.text.now)) c.in-Some.is c.in_ok-written.ensures.tells)
+    let drafted = subst (λ (t : Bor Text). IsDraft t.now c.in_ok-written.field-0) c.in_ok-patterns.ensures.text c.in_ok-written.ensures in
+    late_least c.args.text.now c.in-Some.refusal c.in_ok-cycles.ensures (subst (TellsLeast (RuleFault c.args.text.now)) c.in-Some.is drafted.tells)
 
 pub returns-clause-faults : goal.returns-clause-faults
 returns-clause-faults c =
-    let sound = subst (TellsLeast (RuleFault c.args.text.now)) c.in_default.is c.in_ok-written.ensures.tells in
+    let drafted = subst (λ (t : Bor Text). IsDraft t.now c.in_ok-written.field-0) c.in_ok-patterns.ensures.text c.in_ok-written.ensures in
+    let sound = subst (TellsLeast (RuleFault c.args.text.now)) c.in_default.is drafted.tells in
     λ r h. elim h [ inl cycle ↦ c.in_ok-cycles.ensures r cycle | inr rule ↦ sound r rule ]
 
 pub returns-clause-meaning : goal.returns-clause-meaning
 returns-clause-meaning c =
+    let drafted = subst (λ (t : Bor Text). IsDraft t.now c.in_ok-written.field-0) c.in_ok-patterns.ensures.text c.in_ok-written.ensures in
     c.in_ok-assemble.ensures
     ∙ program_is c.args.text.now c.args.scopes.now c.requires c.in_ok-written.field-0.rules.items (map placed c.as_slice-2.result.now)
-    (c.in_ok-written.ensures.rules c.in_default.is) (ap (map placed) c.as_slice-2.ensures.value ∙ c.in_ok-items.ensures)
+    (drafted.rules c.in_default.is) (ap (map placed) c.as_slice-2.ensures.value ∙ c.in_ok-items.ensures)
 
 pub returns-clause-valid : goal.returns-clause-valid
 returns-clause-valid c = λ spelled scope.
-    let sound = subst (TellsLeast (RuleFault c.args.text.now)) c.in_default.is c.in_ok-written.ensures.tells in
-    let counted = c.in_ok-written.ensures.counted c.in_default.is c.if-group-ge-GROUP_NUMBERS.false in
+    let drafted = subst (λ (t : Bor Text). IsDraft t.now c.in_ok-written.field-0) c.in_ok-patterns.ensures.text c.in_ok-written.ensures in
+    let sound = subst (TellsLeast (RuleFault c.args.text.now)) c.in_default.is drafted.tells in
+    let counted = drafted.counted c.in_default.is c.if-group-ge-GROUP_NUMBERS.false in
     subst IsValid (sym (returns-clause-meaning c)) (valid c.args.text.now counted c.in_ok-cycles.ensures sound spelled scope)

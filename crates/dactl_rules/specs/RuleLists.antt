@@ -12,7 +12,7 @@ use Rattle.dactl_syntax.specs.Contractum.{term_of_part}
 use Rattle.dactl_syntax.specs.Meaning.{rules_from}
 use Rattle.dactl_syntax.specs.RuleFaults.{rule_faults}
 use Rattle.dactl_symbols.specs.Least.{sooner, TellsLeast}
-use Rattle.dactl_rules.specs.declared.ruling.Ruling.{Ruling}
+use Rattle.dactl_rules.specs.declared.compiled.CompiledRules.{CompiledRules}
 use Rattle.dactl_rules.specs.Counting.{AreCountable}
 
 -- the terms of a rule's right side
@@ -20,7 +20,7 @@ abbrev pub terms_of : RuleTree → List TermTree
 terms_of tree = map term_of_part tree.parts
 
 -- to what was there these faults, rules, contracta and so many groups are added. Where there is no fault among them, the rules are there, and their contracta can be counted
-pub record Adds (faults : List Refusal) (rules : List Rule) (contracta : List (List TermTree)) (groups : ℕ) (old new : Ruling) : Type 0 where
+pub record Adds (faults : List Refusal) (rules : List Rule) (contracta : List (List TermTree)) (groups : ℕ) (old new : CompiledRules) : Type 0 where
   pub least : Option Refusal
   pub tells : TellsLeast (Contains faults) least
   pub fault : new.fault ≡ sooner old.fault least
@@ -44,11 +44,11 @@ abbrev pub contracta_in : List PlacedGroup → List (List TermTree)
 contracta_in groups = flat_map (λ g. map terms_of g.group.rules) groups
 
 -- groups are added
-abbrev pub AddsGroups : Text → List PlacedGroup → Ruling → Ruling → Type 0
+abbrev pub AddsGroups : Text → List PlacedGroup → CompiledRules → CompiledRules → Type 0
 AddsGroups text groups old new = Adds (faults_in text groups) (rules_from text old.group groups) (contracta_in groups) (length groups) old new
 
 -- these are the rules of the groups, the first of which has the number 5, or their first fault
-pub record HasRules (text : Text) (groups : List PlacedGroup) (r : Ruling) : Type 0 where
+pub record HasRules (text : Text) (groups : List PlacedGroup) (r : CompiledRules) : Type 0 where
   pub tells : TellsLeast (Contains (faults_in text groups)) r.fault
   pub rules : r.fault ≡ None → r.rules.items ≡ rules_from text 5 groups
   pub counted : r.fault ≡ None → All AreCountable (contracta_in groups)

@@ -15,9 +15,9 @@ use Rattle.dactl_syntax.specs.Meaning.{rule_of, rules_from}
 use Rattle.dactl_syntax.specs.RuleFaults.{rule_faults}
 use Rattle.dactl_symbols.specs.Least.{sooner, precedes, TellsLeast}
 use Rattle.dactl_symbols.proofs.Sooner.{sooner-None, sooner-assoc}
-use Rattle.dactl_rules.specs.declared.ruling.Ruling.{Ruling}
+use Rattle.dactl_rules.specs.declared.compiled.CompiledRules.{CompiledRules}
 use Rattle.dactl_rules.specs.Counting.{AreCountable}
-use Rattle.dactl_rules.specs.Ruling.{Adds, AddsGroups, HasRules, terms_of, placed_groups, groups_in, faults_in, contracta_in}
+use Rattle.dactl_rules.specs.RuleLists.{Adds, AddsGroups, HasRules, terms_of, placed_groups, groups_in, faults_in, contracta_in}
 use Rattle.dactl_rules.proofs.Least.{tells_append}
 use Rattle.dactl_rules.proofs.Listings.{one_more, flat_one}
 use Rattle.dactl_rules.proofs.Listings.{items_more as items_more_of}
@@ -43,7 +43,7 @@ both_none (Some a) (Some b) e = absurd (full a b e)
 
 -- ---- additions
 
-pub adds_none : (r : Ruling) → Adds [] [] [] 0 r r
+pub adds_none : (r : CompiledRules) → Adds [] [] [] 0 r r
 adds_none r = record {
   least = None;
   tells = none_told;
@@ -53,7 +53,7 @@ adds_none r = record {
   next = omega arith;
 }
 
-pub adds_then : {f g : List Refusal} {r s : List Rule} {c d : List (List TermTree)} {m n : ℕ} {x y z : Ruling} → Adds f r c m x y → Adds g s d n y z → Adds (f ++ g) (r ++ s) (c ++ d) (m + n) x z
+pub adds_then : {f g : List Refusal} {r s : List Rule} {c d : List (List TermTree)} {m n : ℕ} {x y z : CompiledRules} → Adds f r c m x y → Adds g s d n y z → Adds (f ++ g) (r ++ s) (c ++ d) (m + n) x z
 adds_then {f} {g} {r} {s} {c} {d} {m} {n} {x} {y} {z} a b = record {
   least = sooner a.least b.least;
   tells = tells_append f g a.least b.least a.tells b.tells;
@@ -64,11 +64,11 @@ adds_then {f} {g} {r} {s} {c} {d} {m} {n} {x} {y} {z} a b = record {
 }
 
 -- the additions by other names
-pub adds_same : {f g : List Refusal} {r s : List Rule} {c d : List (List TermTree)} {m n : ℕ} {x y : Ruling} → f ≡ g → r ≡ s → c ≡ d → m ≡ n → Adds f r c m x y → Adds g s d n x y
+pub adds_same : {f g : List Refusal} {r s : List Rule} {c d : List (List TermTree)} {m n : ℕ} {x y : CompiledRules} → f ≡ g → r ≡ s → c ≡ d → m ≡ n → Adds f r c m x y → Adds g s d n x y
 adds_same {x = x} {y = y} ef er ec em a = subst (λ (v : List Refusal × (List Rule × (List (List TermTree) × ℕ))). Adds v.0 v.1.0 v.1.1.0 v.1.1.1 x y) (λ j. (ef j, (er j, (ec j, em j)))) a
 
 -- a rule more of a group
-pub rules_more : (text : Text) (owner : ℕ) (rules : List RuleTree) (i : ℕ) (tree : RuleTree) (x y z : Ruling) → i < length rules → tree ≡ get_or rules i tree
+pub rules_more : (text : Text) (owner : ℕ) (rules : List RuleTree) (i : ℕ) (tree : RuleTree) (x y z : CompiledRules) → i < length rules → tree ≡ get_or rules i tree
     → Adds (flat_map (rule_faults text owner) (take i rules)) (map (rule_of text owner x.group) (take i rules)) (map terms_of (take i rules)) 0 x y
     → Adds (rule_faults text owner tree) (rule_of text owner y.group tree ∷ []) (terms_of tree ∷ []) 0 y z
     → Adds (flat_map (rule_faults text owner) (take (i + 1) rules)) (map (rule_of text owner x.group) (take (i + 1) rules)) (map terms_of (take (i + 1) rules)) 0 x z
@@ -84,7 +84,7 @@ rules_more text owner rules i tree x y z lt at before here =
     (adds_then before here)
 
 -- the group is behind its rules
-pub group_ends : {f : List Refusal} {r : List Rule} {c : List (List TermTree)} {x y z : Ruling} → Adds f r c 0 x y → z.rules ≡ y.rules → z.fault ≡ y.fault → z.group ≡ y.group + 1 → Adds f r c 1 x z
+pub group_ends : {f : List Refusal} {r : List Rule} {c : List (List TermTree)} {x y z : CompiledRules} → Adds f r c 0 x y → z.rules ≡ y.rules → z.fault ≡ y.fault → z.group ≡ y.group + 1 → Adds f r c 1 x z
 group_ends {r = r} {x = x} a rules fault group = record {
   least = a.least;
   tells = a.tells;
@@ -103,10 +103,10 @@ rules_both text n (g ∷ xs) ys =
     ap (λ (z : List Rule). map (rule_of text g.owner n) g.group.rules ++ z) (rules_both text (n + 1) xs ys ∙ ap (λ (k : ℕ). rules_from text (n + 1) xs ++ rules_from text k ys) e)
     ∙ sym (append_assoc (map (rule_of text g.owner n) g.group.rules) (rules_from text (n + 1) xs) (rules_from text (n + length (g ∷ xs)) ys))
 
-pub groups_none : (text : Text) (x : Ruling) → AddsGroups text [] x x
+pub groups_none : (text : Text) (x : CompiledRules) → AddsGroups text [] x x
 groups_none text x = adds_none x
 
-pub groups_then : (text : Text) (gs hs : List PlacedGroup) (x y z : Ruling) → AddsGroups text gs x y → AddsGroups text hs y z → AddsGroups text (gs ++ hs) x z
+pub groups_then : (text : Text) (gs hs : List PlacedGroup) (x y z : CompiledRules) → AddsGroups text gs x y → AddsGroups text hs y z → AddsGroups text (gs ++ hs) x z
 groups_then text gs hs x y z a b =
     let at : y.group ≡ x.group + length gs = a.next in
     adds_same
@@ -116,13 +116,13 @@ groups_then text gs hs x y z a b =
     (sym (length-append gs hs))
     (adds_then a b)
 
-pub groups_one : (text : Text) (owner : ℕ) (group : Group) (x y : Ruling)
+pub groups_one : (text : Text) (owner : ℕ) (group : Group) (x y : CompiledRules)
     → Adds (flat_map (rule_faults text owner) group.rules) (map (rule_of text owner x.group) group.rules) (map terms_of group.rules) 1 x y → AddsGroups text (placed_groups owner (group ∷ [])) x y
 groups_one text owner group x y a =
     adds_same (sym (append-nil (flat_map (rule_faults text owner) group.rules))) (sym (append-nil (map (rule_of text owner x.group) group.rules))) (sym (append-nil (map terms_of group.rules))) refl a
 
 -- a group more of a module
-pub groups_more : (text : Text) (owner : ℕ) (groups : List Group) (i : ℕ) (group : Group) (x y z : Ruling) → i < length groups → group ≡ get_or groups i group
+pub groups_more : (text : Text) (owner : ℕ) (groups : List Group) (i : ℕ) (group : Group) (x y z : CompiledRules) → i < length groups → group ≡ get_or groups i group
     → AddsGroups text (placed_groups owner (take i groups)) x y
     → Adds (flat_map (rule_faults text owner) group.rules) (map (rule_of text owner y.group) group.rules) (map terms_of group.rules) 1 y z
     → AddsGroups text (placed_groups owner (take (i + 1) groups)) x z
@@ -132,7 +132,7 @@ groups_more text owner groups i group x y z lt at before here =
     (groups_then text (placed_groups owner (take i groups)) (placed_groups owner (group ∷ [])) x y z before (groups_one text owner group y z here))
 
 -- an item more of a text
-pub groups_of_items_more : {I : Type 0} (text : Text) (placed : I → Placed) (items : List I) (i : ℕ) (item : I) (x y z : Ruling) → i < length items → item ≡ get_or items i item
+pub groups_of_items_more : {I : Type 0} (text : Text) (placed : I → Placed) (items : List I) (i : ℕ) (item : I) (x y z : CompiledRules) → i < length items → item ≡ get_or items i item
     → AddsGroups text (flat_map groups_in (map placed (take i items))) x y → AddsGroups text (groups_in (placed item)) y z
     → AddsGroups text (flat_map groups_in (map placed (take (i + 1) items))) x z
 groups_of_items_more text placed items i item x y z lt at before here =
@@ -141,7 +141,7 @@ groups_of_items_more text placed items i item x y z lt at before here =
     (groups_then text (flat_map groups_in (map placed (take i items))) (groups_in (placed item)) x y z before here)
 
 -- all of them, from nothing
-pub rules_all : (text : Text) (gs : List PlacedGroup) (x y : Ruling) → x.rules.items ≡ [] → x.fault ≡ None → x.group ≡ 5 → AddsGroups text gs x y → HasRules text gs y
+pub rules_all : (text : Text) (gs : List PlacedGroup) (x y : CompiledRules) → x.rules.items ≡ [] → x.fault ≡ None → x.group ≡ 5 → AddsGroups text gs x y → HasRules text gs y
 rules_all text gs x y empty sound five a =
     let is : y.fault ≡ a.least = a.fault ∙ ap (λ (o : Option Refusal). sooner o a.least) sound in
     record {

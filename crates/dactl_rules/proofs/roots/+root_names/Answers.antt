@@ -2,8 +2,8 @@ use Rattle.std.proofs.Common.{◌≡◌, ℕ, List, [], ◌++◌, Bool, true, fa
 use Rattle.std.proofs.lemmas.List.{append-nil}
 use Rattle.dactl_syntax.specs.declared.tree.PatternTree.{PatternTree}
 use Rattle.dactl_syntax.specs.Expansion.{root_names, has_plus}
-use Rattle.dactl_rules.proofs.Heads.{root_chain}
-use Rattle.dactl_rules.proofs.head.+root_names.Goals as goal
+use Rattle.dactl_rules.proofs.RootNames.{root_chain}
+use Rattle.dactl_rules.proofs.roots.+root_names.Goals as goal
 
 pub returns-in_ok-root_names-in-Chain : goal.returns-in_ok-root_names-in-Chain
 returns-in_ok-root_names-in-Chain t c =

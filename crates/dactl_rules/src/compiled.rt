@@ -3,41 +3,40 @@ ghost use Rattle.std.specs.Prelude.{◌≡◌, [], ◌∷◌, IfOk, OnOk, map};
 ghost use Rattle.std.specs.List.{flat_map};
 ghost use Rattle.dactl_syntax.specs.Meaning.{rule_of};
 ghost use Rattle.dactl_syntax.specs.RuleFaults.{rule_faults};
-ghost use Rattle.dactl_symbols.specs.Scoping.{IsScopesOf};
+ghost use Rattle.dactl_patterns.specs.NamedPatterns.{AreNamed};
 ghost use Rattle.dactl_rules.specs.Listing.{placed};
-ghost use Rattle.dactl_rules.specs.Ruling.{Adds, AddsGroups, HasRules, terms_of, placed_groups, groups_in};
+ghost use Rattle.dactl_rules.specs.RuleLists.{Adds, AddsGroups, HasRules, terms_of, placed_groups, groups_in};
 
 use crate::listing::Placed;
 use crate::rule::rule;
 use dactl_base::refusal::{Memory, Refusal, TextFault};
 use dactl_model::program::Rule;
+use dactl_patterns::NamedPatterns;
 use dactl_symbols::least::lesser;
-use dactl_symbols::sight::Scopes;
-use dactl_syntax::tree::{Group, Item, RuleTree, Text};
+use dactl_syntax::tree::{Group, Item, RuleTree};
 use std::alloc::{AllocError, Global};
 
 /// Rules so far, the number of the next group, and the first fault so far. Behind a fault there may
 /// be rules missing.
 #[derive(Drop)]
-pub struct Ruling {
+pub struct CompiledRules {
     pub rules: Vec<Rule>,
     pub group: u32,
     pub fault: Option<Refusal>,
 }
 
-impl Ruling {
+impl CompiledRules {
     fn add_rule(
         &mut self,
         alloc: Global,
-        text: &Text,
-        scopes: &Scopes,
+        patterns: &NamedPatterns,
         owner: usize,
         tree: &RuleTree,
     ) -> Result<(), Memory>
-        requires { IsScopesOf text.now scopes.now }
-        ensures { OnOk result (Adds (rule_faults text.now owner tree.now) (rule_of text.now owner self.old.group tree.now ∷ []) (terms_of tree.now ∷ []) 0 self.old self.new) }
+        requires { AreNamed patterns.now }
+        ensures { OnOk result (Adds (rule_faults patterns.now.text.now owner tree.now) (rule_of patterns.now.text.now owner self.old.group tree.now ∷ []) (terms_of tree.now ∷ []) 0 self.old self.new) }
     {
-        match rule(alloc, text, scopes, owner, self.group, tree) {
+        match rule(alloc, patterns, owner, self.group, tree) {
             Ok(rule) => {
                 self.rules.push(rule)?;
             }
@@ -52,16 +51,15 @@ impl Ruling {
     fn add_rules(
         &mut self,
         alloc: Global,
-        text: &Text,
-        scopes: &Scopes,
+        patterns: &NamedPatterns,
         owner: usize,
         rules: &[RuleTree],
     ) -> Result<(), Memory>
-        requires { IsScopesOf text.now scopes.now }
-        ensures { OnOk result (Adds (flat_map (rule_faults text.now owner) rules.now) (map (rule_of text.now owner self.old.group) rules.now) (map terms_of rules.now) 0 self.old self.new) }
+        requires { AreNamed patterns.now }
+        ensures { OnOk result (Adds (flat_map (rule_faults patterns.now.text.now owner) rules.now) (map (rule_of patterns.now.text.now owner self.old.group) rules.now) (map terms_of rules.now) 0 self.old self.new) }
     {
         for tree in rules {
-            self.add_rule(alloc, text, scopes, owner, tree)?;
+            self.add_rule(alloc, patterns, owner, tree)?;
         }
         Ok(())
     }
@@ -69,15 +67,14 @@ impl Ruling {
     fn add_group(
         &mut self,
         alloc: Global,
-        text: &Text,
-        scopes: &Scopes,
+        patterns: &NamedPatterns,
         owner: usize,
         group: &Group,
     ) -> Result<(), Memory>
-        requires { IsScopesOf text.now scopes.now }
-        ensures { OnOk result (Adds (flat_map (rule_faults text.now owner) group.now.rules) (map (rule_of text.now owner self.old.group) group.now.rules) (map terms_of group.now.rules) 1 self.old self.new) }
+        requires { AreNamed patterns.now }
+        ensures { OnOk result (Adds (flat_map (rule_faults patterns.now.text.now owner) group.now.rules) (map (rule_of patterns.now.text.now owner self.old.group) group.now.rules) (map terms_of group.now.rules) 1 self.old self.new) }
     {
-        self.add_rules(alloc, text, scopes, owner, group.rules.as_slice())?;
+        self.add_rules(alloc, patterns, owner, group.rules.as_slice())?;
         self.group = self.group.checked_add(1).ok_or(AllocError)?;
         Ok(())
     }
@@ -85,16 +82,15 @@ impl Ruling {
     fn add_groups(
         &mut self,
         alloc: Global,
-        text: &Text,
-        scopes: &Scopes,
+        patterns: &NamedPatterns,
         owner: usize,
         groups: &[Group],
     ) -> Result<(), Memory>
-        requires { IsScopesOf text.now scopes.now }
-        ensures { OnOk result (AddsGroups text.now (placed_groups owner groups.now) self.old self.new) }
+        requires { AreNamed patterns.now }
+        ensures { OnOk result (AddsGroups patterns.now.text.now (placed_groups owner groups.now) self.old self.new) }
     {
         for group in groups {
-            self.add_group(alloc, text, scopes, owner, group)?;
+            self.add_group(alloc, patterns, owner, group)?;
         }
         Ok(())
     }
@@ -102,16 +98,15 @@ impl Ruling {
     fn add_item(
         &mut self,
         alloc: Global,
-        text: &Text,
-        scopes: &Scopes,
+        patterns: &NamedPatterns,
         item: Placed,
     ) -> Result<(), Memory>
-        requires { IsScopesOf text.now scopes.now }
-        ensures { OnOk result (AddsGroups text.now (groups_in (placed item.entry)) self.old self.new) }
+        requires { AreNamed patterns.now }
+        ensures { OnOk result (AddsGroups patterns.now.text.now (groups_in (placed item.entry)) self.old self.new) }
     {
         match item.item {
             Item::Rules { groups } => {
-                self.add_groups(alloc, text, scopes, item.owner, groups.as_slice())
+                self.add_groups(alloc, patterns, item.owner, groups.as_slice())
             }
             _ => Ok(()),
         }
@@ -121,20 +116,19 @@ impl Ruling {
 /// The rules of the items, whose first group has the number 5, behind those of the arithmetic.
 pub fn rules(
     alloc: Global,
-    text: &Text,
-    scopes: &Scopes,
+    patterns: &NamedPatterns,
     items: &[Placed],
-) -> Result<Ruling, Memory>
-    requires { IsScopesOf text.now scopes.now }
-    ensures { IfOk result (HasRules text.now (flat_map groups_in (map placed items.now))) }
+) -> Result<CompiledRules, Memory>
+    requires { AreNamed patterns.now }
+    ensures { IfOk result (HasRules patterns.now.text.now (flat_map groups_in (map placed items.now))) }
 {
-    let mut ruling = Ruling {
+    let mut compiled = CompiledRules {
         rules: Vec::new(alloc),
         group: 5,
         fault: None,
     };
     for item in items {
-        ruling.add_item(alloc, text, scopes, *item)?;
+        compiled.add_item(alloc, patterns, *item)?;
     }
-    Ok(ruling)
+    Ok(compiled)
 }

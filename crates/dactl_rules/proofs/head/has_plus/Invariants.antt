@@ -1,7 +1,0 @@
-use Rattle.std.proofs.Common.{◌≡◌, drop}
-use Rattle.dactl_syntax.specs.Expansion.{has_plus}
-use Rattle.dactl_rules.proofs.head.has_plus.Given as goal
-
--- no `+` so far, so the rest tells
-abbrev pub invariant-loop-link : goal.invariant-loop-link
-invariant-loop-link l = has_plus l.rest ≡ has_plus (drop l.link-index l.rest)

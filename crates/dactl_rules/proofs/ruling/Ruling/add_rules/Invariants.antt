@@ -1,9 +1,0 @@
-use Rattle.std.proofs.Common.{map, take}
-use Rattle.std.specs.List.{flat_map}
-use Rattle.dactl_syntax.specs.Meaning.{rule_of}
-use Rattle.dactl_syntax.specs.RuleFaults.{rule_faults}
-use Rattle.dactl_rules.specs.Ruling.{Adds, terms_of}
-use Rattle.dactl_rules.proofs.ruling.Ruling.add_rules.Given as goal
-
-abbrev pub invariant-loop-tree : goal.invariant-loop-tree
-invariant-loop-tree l = Adds (flat_map (rule_faults l.text l.owner) (take l.tree-index l.rules)) (map (rule_of l.text l.owner l.initial.self.group) (take l.tree-index l.rules)) (map terms_of (take l.tree-index l.rules)) 0 l.initial.self l.self

@@ -1,0 +1,40 @@
+//! The names of a rule's root.
+ghost use Rattle.std.specs.Prelude.{◌≡◌, ◌++◌, OnOk};
+ghost use Rattle.dactl_syntax.specs.Expansion.{root_names as names_of_root};
+
+use dactl_base::refusal::Memory;
+use dactl_patterns::occurrences::has_plus;
+use dactl_syntax::tree::PatternTree;
+use sqlite_items::Items;
+use std::alloc::Global;
+
+/// Adds the names of the root of a rule with this pattern to `names`.
+pub fn root_names(
+    alloc: Global,
+    names: &mut Items<Items<u8>>,
+    tree: &PatternTree,
+) -> Result<(), Memory>
+    ensures { OnOk result (names.new ≡ names.old ++ names_of_root tree.now) }
+{
+    match tree {
+        PatternTree::Any
+        | PatternTree::Int
+        | PatternTree::Integer { .. }
+        | PatternTree::Sym { .. } => Ok(()),
+        PatternTree::Variable { name } => {
+            names.push(Items::from_slice(alloc, name.text.as_slice())?)?;
+            Ok(())
+        }
+        PatternTree::Binder { name, inner } => {
+            names.push(Items::from_slice(alloc, name.text.as_slice())?)?;
+            root_names(alloc, names, inner.get())?;
+            Ok(())
+        }
+        PatternTree::Chain { first, rest } => {
+            if !has_plus(rest.as_slice()) {
+                root_names(alloc, names, first.get())?;
+            }
+            Ok(())
+        }
+    }
+}
