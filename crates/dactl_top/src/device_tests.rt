@@ -1,72 +1,82 @@
 //! Sources and sinks with faults, and texts up to the greatest length.
 
-use crate::call::dactl;
-use crate::kept::Kept;
-use crate::testing::{APPEND, APPENDED, PAIR, words_of};
+ghost use Rattle.std.specs.Prelude.{◌<◌};
+
+use crate::testing::{APPEND, APPENDED, Answered, PAIR, called_over};
 use dactl_base::memory::{MemorySink, MemorySource};
 use dactl_base::refusal::{Kind, Place, Refusal};
 use std::alloc::{AllocError, Global};
 
-// A source of the text that gives one byte a read, and fails at one of its reads.
-fn failing_source(alloc: Global, text: &str, read: u64) -> Result<MemorySource, AllocError> {
-    let bytes = Vec::from_slice(alloc, text.as_bytes())?;
+/// What the text of a shared node prints.
+const SHARED: &[u8] = b"normal 0\n@1 Pair[@2 @2]\n@2 Nil\n";
+
+// A source of the bytes that gives so many a read.
+fn source_of(alloc: Global, bytes: &[u8], chunk: usize) -> Result<MemorySource, AllocError>
+    requires { 0 < chunk }
+{
+    Ok(MemorySource::new(Vec::from_slice(alloc, bytes)?, chunk, Vec::new(alloc)))
+}
+
+// A source of `PAIR` that gives one byte a read, and fails at one of its reads.
+fn failing_source(alloc: Global, read: u64) -> Result<MemorySource, AllocError> {
+    let bytes = Vec::from_slice(alloc, PAIR.as_bytes())?;
     Ok(MemorySource::new(bytes, 1, vec![in alloc; read]?))
+}
+
+// A sink with this room that takes so many bytes a write.
+fn sink_of(alloc: Global, room: usize, chunk: usize) -> Result<MemorySink, AllocError>
+    requires { 0 < chunk }
+{
+    MemorySink::new(alloc, room, chunk, Vec::new(alloc))
+}
+
+// The answer over a source that fails at this read: `PAIR` takes 77 of them, one that finds the end included.
+fn is_cut_off(answered: &Answered, read: u64) -> bool {
+    let (code, held) = if read <= 77 {
+        (5, b"read fault\n".as_slice())
+    } else {
+        (0, SHARED)
+    };
+    answered.is(code, held) && answered.kept.text.len() as u64 == read.saturating_sub(1).min(76)
 }
 
 #[test]
 fn sources_fail_at_each_read(rt: HostRuntime) -> Result<(), AllocError> {
-    let alloc = rt.alloc();
-    let words = words_of(alloc, "")?;
-    let whole = "normal 0\n@1 Pair[@2 @2]\n@2 Nil\n";
     for read in 1..=78 {
-        let (code, held) = if read <= 77 {
-            (5, "read fault\n")
-        } else {
-            (0, whole)
-        };
-        let mut source = failing_source(alloc, PAIR, read)?;
-        let mut sink = MemorySink::new(alloc, 100, 100, Vec::new(alloc))?;
-        let mut kept = Kept::empty(alloc);
-        let status = dactl(alloc, &words, &mut source, &mut sink, &mut kept);
-        assert_eq!(rt; status.code(), code, "read {read}");
-        assert_eq!(rt; sink.held(), held.as_bytes(), "read {read}");
-        assert_eq!(rt; kept.text.len() as u64, (read - 1).min(76), "read {read}");
+        let source = failing_source(rt.alloc(), read)?;
+        let sink = sink_of(rt.alloc(), 100, 100)?;
+        let answered = called_over(rt.alloc(), "", source, sink)?;
+        assert!(rt; is_cut_off(&answered, read), "read {read}");
     }
     Ok(())
 }
 
 #[test]
 fn samples_need_no_source(rt: HostRuntime) -> Result<(), AllocError> {
-    let alloc = rt.alloc();
-    let words = words_of(alloc, "--sample|1")?;
-    let mut source = failing_source(alloc, PAIR, 1)?;
-    let mut sink = MemorySink::new(alloc, 100, 100, Vec::new(alloc))?;
-    let mut kept = Kept::empty(alloc);
-    let status = dactl(alloc, &words, &mut source, &mut sink, &mut kept);
-    assert_eq!(rt; status.code(), 0);
-    assert_eq!(rt; sink.held(), b"normal 2\n@1 0\n".as_slice());
+    let source = failing_source(rt.alloc(), 1)?;
+    let sink = sink_of(rt.alloc(), 100, 100)?;
+    let answered = called_over(rt.alloc(), "--sample|1", source, sink)?;
+    assert!(rt; answered.is(0, b"normal 2\n@1 0\n"));
     Ok(())
 }
 
-// A sink of each room takes the front of what is due.
+// The answer over a sink of this room: the front of what append prints.
+fn is_front(answered: &Answered, room: usize) -> bool {
+    let due = APPENDED.as_bytes();
+    let code = if room < due.len() { 6 } else { 0 };
+    match due.get(..room) {
+        Some(front) => answered.is(code, front) && answered.kept.journal.len() == 4,
+        None => false,
+    }
+}
+
 #[test]
 fn sinks_fail_at_each_byte(rt: HostRuntime) -> Result<(), AllocError> {
-    let alloc = rt.alloc();
-    let words = words_of(alloc, "")?;
-    let due = APPENDED.as_bytes();
-    for room in 0..=due.len() {
-        let code = if room < due.len() { 6 } else { 0 };
-        let mut source = MemorySource::new(
-            Vec::from_slice(alloc, APPEND.as_bytes())?,
-            100,
-            Vec::new(alloc),
-        );
-        let mut sink = MemorySink::new(alloc, room, 1, Vec::new(alloc))?;
-        let mut kept = Kept::empty(alloc);
-        let status = dactl(alloc, &words, &mut source, &mut sink, &mut kept);
-        assert_eq!(rt; status.code(), code, "room {room}");
-        assert_eq!(rt; Some(sink.held()), due.get(..room), "room {room}");
-        assert_eq!(rt; kept.journal.len(), 4, "room {room}");
+    for room in 0..=APPENDED.len() {
+        let source = source_of(rt.alloc(), APPEND.as_bytes(), 100)?;
+        let sink = sink_of(rt.alloc(), room, 1)?;
+        let answered = called_over(rt.alloc(), "", source, sink)?;
+        assert!(rt; is_front(&answered, room), "room {room}");
     }
     Ok(())
 }
@@ -74,44 +84,36 @@ fn sinks_fail_at_each_byte(rt: HostRuntime) -> Result<(), AllocError> {
 // The refusal is kept where the sink has no room for it.
 #[test]
 fn refusals_are_kept_without_a_sink(rt: HostRuntime) -> Result<(), AllocError> {
-    let alloc = rt.alloc();
-    let words = words_of(alloc, "")?;
-    let mut source = MemorySource::new(
-        Vec::from_slice(alloc, b"MODULE M; ?")?,
-        100,
-        Vec::new(alloc),
-    );
-    let mut sink = MemorySink::new(alloc, 0, 1, Vec::new(alloc))?;
-    let mut kept = Kept::empty(alloc);
-    let status = dactl(alloc, &words, &mut source, &mut sink, &mut kept);
+    let source = source_of(rt.alloc(), b"MODULE M; ?", 100)?;
+    let sink = sink_of(rt.alloc(), 0, 1)?;
+    let answered = called_over(rt.alloc(), "", source, sink)?;
     let bad = Refusal {
         kind: Kind::BadByte,
         place: Place { byte: 10 },
     };
-    assert_eq!(rt; status.code(), 6);
-    assert!(rt; sink.held().is_empty());
-    assert_eq!(rt; kept.refusal, Some(bad));
+    assert!(rt; answered.is(6, b"") && answered.kept.refusal == Some(bad));
     Ok(())
+}
+
+// The text, and blanks behind it up to this length.
+fn padded(alloc: Global, text: &str, length: usize) -> Result<MemorySource, AllocError> {
+    let mut bytes = Vec::from_slice(alloc, text.as_bytes())?;
+    bytes.resize(length, b' ')?;
+    Ok(MemorySource::new(bytes, 4_096, Vec::new(alloc)))
 }
 
 #[test]
 fn texts_have_a_greatest_length(rt: HostRuntime) -> Result<(), AllocError> {
-    let alloc = rt.alloc();
-    let words = words_of(alloc, "")?;
-    for (front, length, code, line) in [
-        ("", 1_048_576, 3, "refused Unexpected 1048576\n"),
-        ("", 1_048_577, 8, "too long\n"),
-        (PAIR, 1_048_576, 0, "normal 0\n@1 Pair[@2 @2]\n@2 Nil\n"),
-        (PAIR, 1_048_577, 8, "too long\n"),
+    for (text, length, code, output) in [
+        ("", 1_048_576, 3, b"refused Unexpected 1048576\n".as_slice()),
+        ("", 1_048_577, 8, b"too long\n".as_slice()),
+        (PAIR, 1_048_576, 0, SHARED),
+        (PAIR, 1_048_577, 8, b"too long\n".as_slice()),
     ] {
-        let mut text = Vec::from_slice(alloc, front.as_bytes())?;
-        text.resize(length, b' ')?;
-        let mut source = MemorySource::new(text, 4_096, Vec::new(alloc));
-        let mut sink = MemorySink::new(alloc, 64, 64, Vec::new(alloc))?;
-        let mut kept = Kept::empty(alloc);
-        let status = dactl(alloc, &words, &mut source, &mut sink, &mut kept);
-        assert_eq!(rt; sink.held(), line.as_bytes(), "{length} bytes");
-        assert_eq!(rt; status.code(), code, "{length} bytes");
+        let source = padded(rt.alloc(), text, length)?;
+        let sink = sink_of(rt.alloc(), 64, 64)?;
+        let answered = called_over(rt.alloc(), "", source, sink)?;
+        assert!(rt; answered.is(code, output), "{length} bytes");
     }
     Ok(())
 }

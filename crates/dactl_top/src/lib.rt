@@ -15,6 +15,8 @@ pub mod status;
 pub use call::dactl;
 
 #[cfg(test)]
+mod compile_tests;
+#[cfg(test)]
 mod device_tests;
 #[cfg(test)]
 mod example_tests;

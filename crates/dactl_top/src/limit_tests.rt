@@ -113,24 +113,78 @@ fn doubled(alloc: Global, names: &[u8]) -> Result<String, AllocError> {
     Ok(text)
 }
 
+// A module, a symbol, and so many further symbols.
+fn names(alloc: Global, times: usize) -> Result<String, AllocError> {
+    let mut text = String::from_str(alloc, "MODULE M; SYMBOL CREATABLE F")?;
+    for number in 0..times {
+        let name = format!(in alloc; ",S{number}")?;
+        text.push_str(name.as_str())?;
+    }
+    text.push_str("; INITIAL => F; ENDMODULE M;")?;
+    Ok(text)
+}
+
+// So many named patterns, each the name of the one before, and a pattern that has the last of them twice. The
+// first stands for 31 nodes.
+fn aliases(alloc: Global, times: usize) -> Result<String, AllocError> {
+    let mut text = String::from_str(
+        alloc,
+        "MODULE M; SYMBOL REWRITABLE F; PATTERN P0 = 1+1+1+1+1+1+1+1+1+1+1+1+1+1+1+1; ",
+    )?;
+    for number in 1..=times {
+        let before = number - 1;
+        let pattern = format!(in alloc; "PATTERN P{number} = P{before}; ")?;
+        text.push_str(pattern.as_str())?;
+    }
+    let rule = format!(in alloc;
+        "RULE F[(P{times}+P{times})] => F; F[(P{times}+P{times}+1)] => F; "
+    )?;
+    text.push_str(rule.as_str())?;
+    text.push_str("INITIAL => F; ENDMODULE M;")?;
+    Ok(text)
+}
+
+/// A text with so much of one thing.
+#[derive(Clone, Copy)]
+enum Much {
+    Nested(usize),
+    Binders(usize),
+    Variables(usize),
+    Names(usize),
+    Aliases(usize),
+    Doubled(&'static [u8]),
+}
+
+fn text_of(alloc: Global, much: Much) -> Result<String, AllocError> {
+    match much {
+        Much::Nested(times) => nested(alloc, times),
+        Much::Binders(times) => binders(alloc, times),
+        Much::Variables(times) => variables(alloc, times),
+        Much::Names(times) => names(alloc, times),
+        Much::Aliases(times) => aliases(alloc, times),
+        Much::Doubled(names) => doubled(alloc, names),
+    }
+}
+
 #[test]
 fn patterns_and_brackets_have_limits(rt: HostRuntime) -> Result<(), AllocError> {
-    let alloc = rt.alloc();
-    for (text, code, output) in [
-        (nested(alloc, 200)?, 0, "ok\n"),
-        (nested(alloc, 201)?, 3, "refused TooDeep 442\n"),
-        (binders(alloc, 64)?, 0, "ok\n"),
-        (binders(alloc, 65)?, 3, "refused TooWide 36\n"),
-        (variables(alloc, 12)?, 0, "ok\n"),
-        (variables(alloc, 13)?, 3, "refused TooWide 56\n"),
-        (doubled(alloc, b"bcde")?, 0, "ok\n"),
-        (
-            doubled(alloc, b"bcdefghijklmnopqrstuvwxyzABCDEFGHIJKLMN")?,
-            3,
-            "refused TooWide 146\n",
-        ),
+    let many = b"bcdefghijklmnopqrstuvwxyzABCDEFGHIJKLMN".as_slice();
+    for (much, code, output) in [
+        (Much::Nested(200), 0, "ok\n"),
+        (Much::Nested(201), 3, "refused TooDeep 442\n"),
+        (Much::Binders(64), 0, "ok\n"),
+        (Much::Binders(65), 3, "refused TooWide 36\n"),
+        (Much::Variables(12), 0, "ok\n"),
+        (Much::Variables(13), 3, "refused TooWide 56\n"),
+        // the module, a symbol and 16,382 more are 16,384 names
+        (Much::Names(16_382), 0, "ok\n"),
+        (Much::Names(16_383), 3, "refused TooMany 103593\n"),
+        (Much::Aliases(1_000), 3, "refused TooWide 20888\n"),
+        (Much::Doubled(b"bcde".as_slice()), 0, "ok\n"),
+        (Much::Doubled(many), 3, "refused TooWide 146\n"),
     ] {
-        expect(&rt, alloc, "--check", text.as_str(), code, output)?;
+        let text = text_of(rt.alloc(), much)?;
+        expect(&rt, rt.alloc(), "--check", text.as_str(), code, output)?;
     }
     Ok(())
 }

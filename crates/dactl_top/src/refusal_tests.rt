@@ -40,6 +40,23 @@ fn tokens_grammar_and_names_are_refused(rt: HostRuntime) -> Result<(), AllocErro
             "MODULE M; SYMBOL CREATABLE PUBLIC OVERWRITABLE A; INITIAL => A; ENDMODULE M;",
             "refused PublicTooStrong 34\n",
         ),
+        (
+            "MODULE M; SYMBOL REWRITABLE PUBLIC REWRITABLE A; INITIAL => A; ENDMODULE M;",
+            "refused PublicTooStrong 35\n",
+        ),
+        // a later module is imported, and a pattern is given arguments or is not seen
+        (
+            "MODULE A; IMPORTS B; ENDMODULE A; MODULE B; ENDMODULE B;",
+            "refused UnknownModule 18\n",
+        ),
+        (
+            "MODULE M; SYMBOL REWRITABLE F; PATTERN P = ANY; RULE F[P[1]] => 1; ENDMODULE M;",
+            "refused UnknownName 55\n",
+        ),
+        (
+            "MODULE A; PATTERN P = ANY; ENDMODULE A; MODULE B; SYMBOL REWRITABLE F; RULE F[P] => 1; INITIAL => F; ENDMODULE B;",
+            "refused NotVisible 78\n",
+        ),
         ("MODULE M; ENDMODULE M;", "refused NoInitial 22\n"),
         (
             "MODULE M; SYMBOL CREATABLE A; INITIAL => A; INITIAL => A; ENDMODULE M;",
@@ -58,9 +75,36 @@ fn patterns_and_rules_are_refused(rt: HostRuntime) -> Result<(), AllocError> {
             "MODULE M; SYMBOL CREATABLE A; PATTERN P = Q; PATTERN Q = P + A; INITIAL => A; ENDMODULE M;",
             "refused PatternCycle 38\n",
         ),
+        // the first of two in a cycle, behind one that only leads to it
+        (
+            "MODULE M; SYMBOL CREATABLE A; PATTERN P = R; PATTERN Q = R; PATTERN R = A + Q; INITIAL => A; ENDMODULE M;",
+            "refused PatternCycle 53\n",
+        ),
+        // a variable below `+`, to the right of `-` and in a named pattern
         (
             "MODULE M; SYMBOL REWRITABLE F; RULE F[(x + 1)] => 1; INITIAL => F; ENDMODULE M;",
             "refused BinderInChoice 39\n",
+        ),
+        (
+            "MODULE M; SYMBOL REWRITABLE F; RULE F[(1 - x)] => 1; INITIAL => F; ENDMODULE M;",
+            "refused BinderInChoice 43\n",
+        ),
+        (
+            "MODULE M; SYMBOL REWRITABLE F; PATTERN P = F[x]; INITIAL => F; ENDMODULE M;",
+            "refused BinderInChoice 45\n",
+        ),
+        (
+            "MODULE M; SYMBOL REWRITABLE F; RULE F[x:1 x:2] => 1; INITIAL => F; ENDMODULE M;",
+            "refused NamedTwice 42\n",
+        ),
+        (
+            "MODULE M; SYMBOL REWRITABLE F; RULE F[1 1 1 1 1 1 1 1 1 1 1 1 1 1 1 1 1] => 1; INITIAL => F; ENDMODULE M;",
+            "refused TooWide 36\n",
+        ),
+        // of two faults at one place the first of the kinds: a union at the root, and 65 nodes
+        (
+            "MODULE M; SYMBOL REWRITABLE F; PATTERN P = 1+1+1+1+1+1+1+1+1+1+1+1+1+1+1+1; RULE P+P+1 => 1; INITIAL => F; ENDMODULE M;",
+            "refused RootNotRewritable 81\n",
         ),
         (
             "MODULE M; SYMBOL CREATABLE F; RULE F => F; INITIAL => F; ENDMODULE M;",
@@ -120,6 +164,26 @@ fn the_first_fault_is_told(rt: HostRuntime) -> Result<(), AllocError> {
             "refused PatternCycle 18\n",
         ),
         (
+            "--check",
+            "MODULE M; SYMBOL CREATABLE True; INITIAL => B; ENDMODULE M;",
+            "refused TwiceDeclared 27\n",
+        ),
+        (
+            "--check",
+            "MODULE M; SYMBOL REWRITABLE F; SYMBOL CREATABLE A; RULE A => F; PATTERN P = x; RULE F => y; INITIAL => #A; ENDMODULE M;",
+            "refused RootNotRewritable 56\n",
+        ),
+        (
+            "--check",
+            "MODULE M; SYMBOL REWRITABLE F; SYMBOL CREATABLE A; PATTERN P = A + A; RULE F => P; PATTERN Q = x; INITIAL => #A; ENDMODULE M;",
+            "refused NotCreatable 80\n",
+        ),
+        (
+            "--check",
+            "MODULE M; SYMBOL REWRITABLE F; RULE F => y; PATTERN P = F + P; INITIAL => #F; ENDMODULE M;",
+            "refused PatternCycle 52\n",
+        ),
+        (
             "",
             "MODULE M; SYMBOL CREATABLE F; INITIAL => F[x y]; ENDMODULE M;",
             "refused Unbound 43\n",
@@ -132,8 +196,7 @@ fn the_first_fault_is_told(rt: HostRuntime) -> Result<(), AllocError> {
         kind: Kind::Unbound,
         place: Place { byte: 21 },
     };
-    assert_eq!(rt; answered.kept.refusal, Some(unbound));
-    assert!(rt; answered.kept.program.is_none());
+    assert!(rt; answered.kept.refusal == Some(unbound) && answered.kept.program.is_none());
     Ok(())
 }
 
@@ -159,21 +222,21 @@ fn is_unexpected(alloc: Global, held: &[u8], place: usize) -> Result<bool, Alloc
     Ok(held == line.as_bytes())
 }
 
-// Each text that ends before the last semicolon of append is refused at its last token or at its end.
+// Whether the text is told to be unexpected at its last token or at its end.
+fn is_cut_off(alloc: Global, text: &str) -> Result<bool, AllocError> {
+    let answered = called(alloc, "", text)?;
+    let held = answered.sink.held();
+    Ok(is_unexpected(alloc, held, last_token(text))? || is_unexpected(alloc, held, text.len())?)
+}
+
+// Each text that ends before the last semicolon of append.
 #[test]
 fn texts_that_are_cut_off_are_refused(rt: HostRuntime) -> Result<(), AllocError> {
-    let Some(end) = APPEND.rfind(';') else {
-        return Err(AllocError);
-    };
+    let end = APPEND.rfind(';').unwrap_or(APPEND.len());
     for length in 0..=end {
-        let Some(text) = APPEND.get(..length) else {
-            return Err(AllocError);
-        };
-        let answered = called(rt.alloc(), "", text)?;
-        let held = answered.sink.held();
-        let at_token = is_unexpected(rt.alloc(), held, last_token(text))?;
-        let at_end = is_unexpected(rt.alloc(), held, length)?;
-        assert!(rt; at_token || at_end, "after {length} bytes");
+        if let Some(text) = APPEND.get(..length) {
+            assert!(rt; is_cut_off(rt.alloc(), text)?, "after {length} bytes");
+        }
     }
     Ok(())
 }

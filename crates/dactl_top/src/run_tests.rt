@@ -200,7 +200,6 @@ fn full_runs_keep_their_counts(rt: HostRuntime) -> Result<(), AllocError> {
         needed: Room { nodes: 1, arcs: 0 },
         left: Room { nodes: 0, arcs: 8 },
     };
-    assert_eq!(rt; answered.kept.end, Some(full));
-    assert_eq!(rt; answered.kept.journal.len(), 1);
+    assert!(rt; answered.kept.end == Some(full) && answered.kept.journal.len() == 1);
     Ok(())
 }

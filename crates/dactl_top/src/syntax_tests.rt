@@ -21,8 +21,8 @@ fn canonical_texts_read_the_same(rt: HostRuntime) -> Result<(), TextFault> {
     let canonical =
         "MODULE Main ;\nSYMBOL REWRITABLE Append ;\nSYMBOL CREATABLE Cons , Nil ;\nRULE Append [ Nil y ] => * y ;\nAppend [ Cons [ h t ] y ] => * Cons [ h * Append [ t y ] ] ;\nINITIAL => * Append [ Cons [ Nil Nil ] Nil ] ;\nENDMODULE Main ;\n";
     let once = rewritten(&rt, APPEND.as_bytes())?;
-    assert_eq!(rt; once.as_slice(), canonical.as_bytes());
+    assert!(rt; once.as_slice() == canonical.as_bytes());
     let twice = rewritten(&rt, once.as_slice())?;
-    assert_eq!(rt; twice.as_slice(), once.as_slice());
+    assert!(rt; twice.as_slice() == once.as_slice());
     Ok(())
 }

@@ -69,15 +69,33 @@ pub struct Answered {
     pub sink: MemorySink,
 }
 
-/// Calls with these words over a source of the text and a sink with enough room.
-pub fn called(alloc: Global, words: &str, text: &str) -> Result<Answered, AllocError> {
+impl Answered {
+    /// Whether it is this exit code, and the sink holds these bytes.
+    pub fn is(&self, code: u8, output: &[u8]) -> bool {
+        self.status.code() == code && self.sink.held() == output
+    }
+}
+
+/// Calls with these words over this source and this sink.
+pub fn called_over(
+    alloc: Global,
+    words: &str,
+    source: MemorySource,
+    sink: MemorySink,
+) -> Result<Answered, AllocError> {
     let words = words_of(alloc, words)?;
-    let bytes = Vec::from_slice(alloc, text.as_bytes())?;
-    let mut source = MemorySource::new(bytes, 1_000, Vec::new(alloc));
-    let mut sink = MemorySink::new(alloc, 4_096, 11, Vec::new(alloc))?;
+    let (mut source, mut sink) = (source, sink);
     let mut kept = Kept::empty(alloc);
     let status = dactl(alloc, &words, &mut source, &mut sink, &mut kept);
     Ok(Answered { status, kept, sink })
+}
+
+/// Calls with these words over a source of the text and a sink with enough room.
+pub fn called(alloc: Global, words: &str, text: &str) -> Result<Answered, AllocError> {
+    let bytes = Vec::from_slice(alloc, text.as_bytes())?;
+    let source = MemorySource::new(bytes, 1_000, Vec::new(alloc));
+    let sink = MemorySink::new(alloc, 4_096, 11, Vec::new(alloc))?;
+    called_over(alloc, words, source, sink)
 }
 
 /// Calls, and compares the answer with its code and its output.
@@ -90,8 +108,6 @@ pub fn expect(
     output: &str,
 ) -> Result<(), AllocError> {
     let answered = called(alloc, words, text)?;
-    let held = str::from_utf8(answered.sink.held()).unwrap_or("bytes that are no text");
-    assert_eq!(rt; held, output, "{words} {text}");
-    assert_eq!(rt; answered.status.code(), code, "{words} {text}");
+    assert!(rt; answered.is(code, output.as_bytes()), "{words} {text}");
     Ok(())
 }
