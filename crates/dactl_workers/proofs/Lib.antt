@@ -1,0 +1,4 @@
+pub mod Subsequences
+pub mod OwnActs
+pub mod Done
+pub mod Offers
