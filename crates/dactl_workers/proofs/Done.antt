@@ -1,6 +1,6 @@
 -- Stretches of work, one after another.
 use Rattle.std.proofs.lemmas.List.{append_cancel_left, append_cancel_right}
-use Rattle.std.proofs.Common.{◌≡◌, ◌⊎◌, inl, inr, ⊎_elim, ℕ, ◌+◌, ◌≤◌, ◌<◌, List, [], ◌∷◌, ◌++◌, refl, sym, ap, ◌∙◌, subst, append-nil, append_assoc, length, length-append, arith}
+use Rattle.std.proofs.Common.{◌≡◌, ℕ, ◌+◌, ◌≤◌, ◌<◌, List, [], ◌∷◌, ◌++◌, refl, sym, ap, ◌∙◌, subst, append-nil, append_assoc, length, length-append, arith}
 use Rattle.dactl_model.specs.declared.graph.NodeId.{NodeId}
 use Rattle.dactl_model.specs.declared.graph.Entry.{Entry}
 use Rattle.dactl_model.specs.declared.program.Program.{Program}
@@ -185,6 +185,28 @@ module _ (p : Program) (k : ℕ) where
     back = ap (λ z. z + a.refused) b;
     takes = [];
     taken = t ∙ sym (append-nil a.taken);
+    took = omega arith;
+    stale = omega arith;
+    paid = omega arith;
+  }
+
+  -- and a node was taken
+  pub taken_done : (a : Account) (put taken : List NodeId) (back : ℕ) (n : NodeId) → put ≡ a.put → taken ≡ a.taken ++ n ∷ [] → back ≡ a.back
+      → Done a (record { seen = a.seen; put = put; taken = taken; back = back; commits = a.commits; offered = a.offered; refused = a.refused; took = a.took + 1; stale = a.stale; passive = a.passive })
+  taken_done a put taken back n m t b = record {
+    entries = [];
+    seen = sym (append-nil a.seen);
+    commits = omega arith;
+    offers = [];
+    acts = refl;
+    offered = omega arith;
+    puts = [];
+    put = m ∙ sym (append-nil a.put);
+    among = refl;
+    even = refl;
+    back = ap (λ z. z + a.refused) b;
+    takes = n ∷ [];
+    taken = t;
     took = omega arith;
     stale = omega arith;
     paid = omega arith;

@@ -1,5 +1,5 @@
 -- Subsequences of lists.
-use Rattle.std.proofs.Common.{◌≡◌, List, [], ◌∷◌, ◌++◌, ◌⊎◌, inl, inr, ⊎_elim, refl, sym, ap, ◌∙◌, subst, append-nil}
+use Rattle.std.proofs.Common.{◌≡◌, List, [], ◌∷◌, ◌++◌, inl, inr, ⊎_elim, refl, sym, ap, subst}
 use Rattle.dactl_workers.specs.Accounts.{IsSubsequence}
 
 module _ {A : Type 0} where

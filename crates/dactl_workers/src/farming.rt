@@ -1,6 +1,6 @@
 //! All workers at once.
 
-ghost use Rattle.std.specs.Prelude.{false, ◌≡◌, ◌<◌, All, length};
+ghost use Rattle.std.specs.Prelude.{◌≡◌, ◌<◌, All, length};
 ghost use Rattle.std.specs.List.{AllZip};
 ghost use Rattle.dactl_shared.specs.Stores.{program_of};
 ghost use Rattle.dactl_workers.specs.Work.{IsReady, HasWorked};
@@ -11,6 +11,7 @@ use dactl_decide::Deciders;
 use dactl_queue::Board;
 use dactl_shared::SharedStore;
 use std::sync::Wait;
+use std::thread;
 use std::thread::Threads;
 
 /// Runs the workers, each in a thread of its own, until each has seen an end of the run. The
@@ -31,21 +32,10 @@ where
     ensures each { AllZip (HasWorked (B.fits board.now) B.put B.taken B.back store.now)
         workers.old workers.new }
 {
-    let _ = store;
-    let _ = board;
-    let _ = deciders;
-    let _ = workers.len();
-    let _ = gate;
-    for _ in rt.forever() {
-        if never() {
-            return;
-        }
-    }
-    unreachable!()
-}
-
-fn never() -> bool
-    ensures { result ≡ false }
-{
-    false
+    thread::for_each_mut(
+        rt,
+        workers,
+        workers.len(),
+        &|_, worker| { worker.work(rt, store, board, deciders, gate) },
+    );
 }

@@ -3,8 +3,11 @@
 //! go to the board.
 #![tactic(auto)]
 
+mod choosing;
 mod farming;
 mod gate;
+mod offering;
+mod probing;
 mod report;
 mod worker;
 mod working;

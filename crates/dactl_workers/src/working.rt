@@ -1,21 +1,17 @@
 //! How a worker works.
 
-ghost use Rattle.std.specs.Prelude.{◌≡◌, false};
+ghost use Rattle.std.specs.Prelude.{◌≡◌, IsTrue};
 ghost use Rattle.dactl_shared.specs.Stores.{program_of};
-ghost use Rattle.dactl_workers.specs.Work.{IsReady, HasWorked};
+ghost use Rattle.dactl_workers.specs.Work.{IsReady, HasWorked, HasSeenEnd};
+ghost use Rattle.dactl_workers.specs.Turns.{IsSeated, IsCounted, HasFootprint, HasGone};
 
 use crate::gate::Gate;
 use crate::worker::Worker;
 use dactl_decide::Deciders;
 use dactl_queue::Board;
 use dactl_shared::SharedStore;
+use dactl_state::Answer;
 use std::sync::Wait;
-
-fn never() -> bool
-    ensures { result ≡ false }
-{
-    false
-}
 
 impl<H> Worker<H> {
     /// Tries one node after another until the run has ended: until no node is active, no entry is
@@ -40,15 +36,56 @@ impl<H> Worker<H> {
         requires ready { IsReady (B.fits board.now) B.back store.now deciders.now.widest self.old }
         ensures { HasWorked (B.fits board.now) B.put B.taken B.back store.now self.old self.new }
     {
-        let _ = store;
-        let _ = board;
-        let _ = deciders;
-        let _ = gate;
         for _ in rt.forever() {
-            if never() {
+            if self.turn(rt, store, board, deciders, gate) {
+                self.report.stale = self.seat.stale();
+                self.report.passive = self.seat.passive();
                 return;
             }
         }
         unreachable!()
+    }
+
+    /// Tries one node. True where the run has ended.
+    fn turn<B: Board<Hand = H>, G: Gate, R: Wait>(
+        &mut self,
+        rt: &R,
+        store: &SharedStore,
+        board: &B,
+        deciders: &Deciders,
+        gate: &G,
+    ) -> bool
+        requires deciders { deciders.now.program ≡ program_of store.now }
+        requires footprint { HasFootprint deciders.now.widest self.old }
+        requires seated { IsSeated store.now self.old }
+        requires counted { IsCounted (B.fits board.now) B.back store.now self.old }
+        ensures footprint { HasFootprint deciders.now.widest self.new }
+        ensures seated { IsSeated store.now self.new }
+        ensures counted { IsCounted (B.fits board.now) B.back store.now self.new }
+        ensures gone { HasGone B.put B.taken B.back store.now self.old self.new }
+        ensures end { IsTrue result → HasSeenEnd store.now self.new.seat }
+    {
+        let Some(node) = self.choose(rt, store, board) else {
+            return true;
+        };
+        match self.try_node(rt, store, deciders, gate, node) {
+            Answer::Committed => {
+                self.hand_over(rt, store, board);
+                false
+            }
+            Answer::Stale {
+                node: _,
+                was: _,
+                now: _,
+            } => false,
+            Answer::Passive => false,
+            Answer::Full {
+                node: _,
+                rule: _,
+                needed: _,
+                left: _,
+            } => true,
+            Answer::Ended(_) => true,
+        }
     }
 }
