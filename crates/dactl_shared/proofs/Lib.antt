@@ -1,0 +1,5 @@
+pub mod Crossing
+pub mod Endings
+pub mod Nodes
+pub mod Numbers
+pub mod Turns
