@@ -8,3 +8,6 @@ mod held;
 mod store;
 
 pub use store::{SharedStore, WorkerSeat};
+
+#[cfg(test)]
+mod tests;
