@@ -4,8 +4,10 @@ ghost use Rattle.std.specs.Prelude.{◌≡◌, ◌+◌, ◌<◌, ◌≤◌, ◌^
 ghost use Rattle.dactl_arcs.specs.Pool.{IsValid, LeadsTo, arc_record, arcs_into, rest_of_walk, target_of, targets};
 ghost use Rattle.dactl_arcs.specs.Moves.{cleared, landed, parked, retargeted};
 ghost use Rattle.dactl_arcs.specs.Kept.{AreBelow, IsKept};
+ghost use Rattle.dactl_arcs.specs.Stamps.{changed_by};
 
-use crate::lists::{ArcRecord, Lists, Memory};
+use crate::lists::{ArcRecord, Memory};
+use crate::stamped::Stamped;
 use std::alloc::{AllocError, Global};
 use std::marker::Model;
 use thiserror::Error;
@@ -26,7 +28,7 @@ pub struct PoolFull;
 #[derive(Drop)]
 pub struct ArcPool {
     // The lists of the targets, and behind them the spare ones for a call that moves.
-    lists: Lists,
+    lists: Stamped,
     targets: u32,
 }
 
@@ -42,6 +44,8 @@ impl Model for ArcPool {
       arcs = p.lists.arcs;
       into = take p.targets p.lists.into;
       room = p.lists.room;
+      changed = p.lists.changed;
+      newest = p.lists.newest;
     } };
 
     ghost invariant = { λ p. IsOver p.lists p.targets };
@@ -49,28 +53,32 @@ impl Model for ArcPool {
 
 // Moves the arcs into the first number of each pair to the pair's own spare slot. A number that an earlier
 // pair began with has no arcs left.
-fn park(lists: &mut Lists, moves: &[(u32, u32)], spare: u32)
+fn park(lists: &mut Stamped, moves: &[(u32, u32)], spare: u32)
     requires slots { spare + length moves.now ≤ targets lists.old }
     requires fits { spare + length moves.now < 2 ^ 32 }
     requires below { AreBelow spare moves.now }
     ensures arcs { lists.new.arcs ≡ map (parked spare moves.now) lists.old.arcs }
     ensures kept { IsKept lists.old lists.new }
+    ensures changed { lists.new.changed ≡ lists.old.changed }
+    ensures newest { lists.new.newest ≡ lists.old.newest }
 {
     for (place, pair) in moves.iter().enumerate() {
-        lists.move_all(pair.0, spare + place as u32);
+        lists.merge(pair.0, spare + place as u32);
     }
 }
 
 // Moves the arcs in each pair's spare slot to the pair's second number.
-fn land(lists: &mut Lists, moves: &[(u32, u32)], spare: u32)
+fn land(lists: &mut Stamped, moves: &[(u32, u32)], spare: u32)
     requires slots { spare + length moves.now ≤ targets lists.old }
     requires fits { spare + length moves.now < 2 ^ 32 }
     requires below { AreBelow spare moves.now }
     ensures arcs { lists.new.arcs ≡ map (landed spare moves.now) lists.old.arcs }
     ensures kept { IsKept lists.old lists.new }
+    ensures changed { lists.new.changed ≡ lists.old.changed }
+    ensures newest { lists.new.newest ≡ lists.old.newest }
 {
     for (place, pair) in moves.iter().enumerate() {
-        lists.move_all(spare + place as u32, pair.1);
+        lists.merge(spare + place as u32, pair.1);
     }
 }
 
@@ -82,11 +90,13 @@ impl ArcPool {
         ensures arcs { IfOk result (λ pool. pool.arcs ≡ []) }
         ensures number { IfOk result (λ pool. length pool.into ≡ targets) }
         ensures room { IfOk result (λ pool. pool.room ≡ arcs) }
+        ensures changed { IfOk result (λ pool. pool.changed ≡ []) }
+        ensures newest { IfOk result (λ pool. pool.newest ≡ 0) }
     {
         if targets > u32::MAX - MOST_MOVES {
             return Err(AllocError);
         }
-        let lists = Lists::with_room(alloc, targets as usize + MOST_MOVES as usize, arcs)?;
+        let lists = Stamped::with_room(alloc, targets + MOST_MOVES, arcs)?;
         Ok(ArcPool { lists, targets })
     }
 
@@ -112,6 +122,8 @@ impl ArcPool {
         ensures number { IfOk result (λ arc. arc ≡ length self.old.arcs) }
         ensures added { OnOk result (self.new.arcs ≡ self.old.arcs ++ arc_record owner target waits ∷ []) }
         ensures kept { IsKept self.old self.new }
+        ensures changed { OnOk result (self.new.changed ≡ self.old.changed ++ 0 ∷ []) }
+        ensures newest { self.new.newest ≡ self.old.newest }
 
         ensures full { IsErr result ↔ (length self.old.arcs ≡ self.old.room) }
         ensures err { OnErr result (self.new ≡ self.old) }
@@ -160,17 +172,32 @@ impl ArcPool {
     }
 
     /// Sends each arc into the first number of a pair to its second, all at the same time: no arc is
-    /// moved twice, and of the pairs that begin with its target the first one counts.
+    /// moved twice, and of the pairs that begin with its target the first one counts. Each arc whose
+    /// target is another one then has the stamp, which is greater than those before.
     ///
-    /// It takes time for the arcs that are moved and for the pairs, and not for the others.
-    pub fn move_many(&mut self, moves: &[(u32, u32)])
+    /// It takes time for the pairs, and for the shorter of each two lists that merge; so an arc is moved
+    /// from list to list at most log2(arcs) times by all calls together.
+    pub fn redirect(&mut self, moves: &[(u32, u32)], stamp: u32)
         requires few { length moves.now ≤ MOST_MOVES }
         requires below { AreBelow (targets self.old) moves.now }
+        requires newer { self.old.newest < stamp }
         ensures arcs { self.new.arcs ≡ map (retargeted moves.now) self.old.arcs }
+        ensures changed { self.new.changed ≡ changed_by moves.now stamp self.old.arcs self.old.changed }
+        ensures newest { self.new.newest ≡ stamp }
         ensures kept { IsKept self.old self.new }
     {
+        self.lists.mark(moves, stamp);
         park(&mut self.lists, moves, self.targets);
         land(&mut self.lists, moves, self.targets);
+    }
+
+    /// When an arc last changed its target: the stamp of the redirection, or 0 where it has the target
+    /// with which it was added.
+    pub fn changed(&self, arc: u32) -> u32
+        requires { arc < length self.now.arcs }
+        ensures { slice_get self.now.changed arc ≡ Some result }
+    {
+        self.lists.changed(arc)
     }
 
     /// Clears the flags of the arcs into the target, in the time of a walk along them.
@@ -179,6 +206,8 @@ impl ArcPool {
         ensures arcs { self.new.arcs ≡ map (cleared target) self.old.arcs }
         ensures into { self.new.into ≡ self.old.into }
         ensures room { self.new.room ≡ self.old.room }
+        ensures changed { self.new.changed ≡ self.old.changed }
+        ensures newest { self.new.newest ≡ self.old.newest }
     {
         self.lists.clear_waits(target);
     }

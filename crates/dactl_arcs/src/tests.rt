@@ -30,7 +30,8 @@ const ARCS: u32 = 8_000_000;
 // Four arcs into each target.
 fn fill(pool: &mut ArcPool)
     requires { targets pool.old ≡ TARGETS }
-    ensures { targets pool.new ≡ TARGETS }
+    ensures number { targets pool.new ≡ TARGETS }
+    ensures newest { pool.new.newest ≡ pool.old.newest }
 {
     for arc in 0..ARCS {
         let node = arc % TARGETS;
@@ -40,11 +41,12 @@ fn fill(pool: &mut ArcPool)
 
 // Moves the arcs into each of the first half of the targets to one of the second, and clears their flags.
 fn move_and_clear_each(pool: &mut ArcPool)
-    requires { targets pool.old ≡ TARGETS }
+    requires number { targets pool.old ≡ TARGETS }
+    requires newest { pool.old.newest ≡ 0 }
 {
     for from in 0..TARGETS / 2 {
         let to = from + TARGETS / 2;
-        pool.move_many(&[(from, to)]);
+        pool.redirect(&[(from, to)], from + 1);
         pool.clear_waits(to);
     }
 }
@@ -57,7 +59,7 @@ fn arcs_move_together_and_lose_their_flags(rt: HostRuntime) -> Result<(), Fail> 
     assert_eq!(rt; pool.add(3, 1, false).ok(), Some(2));
     assert!(rt; pool.add(0, 0, false).is_err());
 
-    pool.move_many(&[(1, 2), (2, 3)]);
+    pool.redirect(&[(1, 2), (2, 3)], 1);
     assert_eq!(rt; pool.len(), 3);
     assert_eq!(rt; pool.room(), 3);
     assert_eq!(rt;
@@ -84,6 +86,13 @@ fn arcs_move_together_and_lose_their_flags(rt: HostRuntime) -> Result<(), Fail> 
             waits: false
         }
     );
+
+    assert_eq!(rt; pool.changed(0), 1);
+    assert_eq!(rt; pool.changed(1), 1);
+    pool.redirect(&[(2, 2), (3, 0)], 2);
+    assert_eq!(rt; pool.changed(0), 1);
+    assert_eq!(rt; pool.changed(1), 2);
+    assert_eq!(rt; pool.changed(2), 1);
 
     let mut owners = owners_into(rt.alloc(), &pool, 2)?;
     owners.sort_unstable();
