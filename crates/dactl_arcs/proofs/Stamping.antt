@@ -1,23 +1,21 @@
 -- The last change of each arc, where arcs change their lists and lists their slots.
-use Rattle.std.proofs.Common.{◌≡◌, ◌≢◌, ℕ, zero, suc, ◌<◌, ◌≤◌, false, cond, eqb, ltb, List, [], ◌∷◌, ◌++◌, length, map, take, get_or, set, Some, refl, sym, ap, subst, ◌∙◌, arith, inl, inr, length-set}
+use Rattle.std.proofs.Common.{◌≡◌, ◌≢◌, ℕ, ◌<◌, ◌≤◌, cond, eqb, ltb, List, [], ◌∷◌, ◌++◌, length, map, take, get_or, set, Some, refl, sym, ap, subst, ◌∙◌, arith, inl, inr, length-set}
 use Rattle.std.specs.List.{All, slice_get, zip}
 use Rattle.std.proofs.lemmas.Bool.{eq-eqb, ne_eqb, le-ltb, cases_eq, cases_Bool, cond-false, cond-true, cond_both, lt-ltb}
 use Rattle.std.proofs.lemmas.Bool.Decides.{nat_tests}
 use Rattle.std.proofs.lemmas.List.{length-map, get_or-map, get_or_read, same_lists}
 use Rattle.std.proofs.Math.Seq.{take-append_seam}
 use Rattle.std.proofs.lemmas.Slice.Zip.{get_or-zip, length-zip}
-use Rattle.std.proofs.lemmas.Option.{slice_get_within, none-some, same_Some}
+use Rattle.std.proofs.lemmas.Option.{get_or_from_slice_get, slice_get-get_or, slice_get_within}
 use Rattle.dactl_arcs.specs.declared.lists.ArcRecord.{ArcRecord}
 use Rattle.dactl_arcs.specs.declared.stamped.ArcStamp.{ArcStamp}
-use Rattle.dactl_arcs.specs.Pool.{Pool, arc_record, target_of, targets}
+use Rattle.dactl_arcs.specs.Pool.{Pool, target_of, targets}
 use Rattle.dactl_arcs.specs.Linked.{Linked, IsIn, IsValidLists}
 use Rattle.dactl_arcs.specs.Moves.{cleared, idle, moved_to, record_at, sent_to}
 use Rattle.dactl_arcs.specs.Naming.{swapped_slot, swapped}
-use Rattle.dactl_arcs.specs.Stamps.{AreMarked, IsStamped, IsValidStamped, changed_by, changes, change_of, last_change}
+use Rattle.dactl_arcs.specs.Stamps.{AreStamped, IsStamped, IsValidStamped, changed_by, changes, change_of, last_change}
 use Rattle.dactl_arcs.proofs.Linking.{get_set}
-
-abbrev pub no_arc : ArcRecord
-no_arc = arc_record 0 0 false
+use Rattle.dactl_arcs.proofs.Naming.{no_arc}
 
 abbrev pub no_stamp : ArcStamp
 no_stamp = record { own = 0; joined = 0 }
@@ -86,11 +84,11 @@ changes-swapped arcs stamps slots from to long different from_in to_in =
     ap (λ x. last_change x (get_or stamps k no_stamp)) (ap (λ x. get_or after x 0) t ∙ same))
 
 -- the stamp of a list is greater than all that its arcs had at joining
-pub changes-marked : (arcs : List ArcRecord) (stamps : List ArcStamp) (slots after : List ℕ) (moves : List (ℕ × ℕ)) (stamp newest : ℕ) → length stamps ≡ length arcs
+pub changes-stamped : (arcs : List ArcRecord) (stamps : List ArcStamp) (slots after : List ℕ) (moves : List (ℕ × ℕ)) (stamp newest : ℕ) → length stamps ≡ length arcs
     → ((k : ℕ) → k < length arcs → target_of arcs k < length slots) → All (λ s. (s.own ≤ newest) × (s.joined ≤ newest)) stamps → newest < stamp
     → ((slot : ℕ) → slot < length slots → get_or after slot 0 ≡ cond (eqb (moved_to moves slot) slot) (get_or slots slot 0) stamp)
     → changes arcs stamps after ≡ changed_by moves stamp arcs (changes arcs stamps slots)
-changes-marked arcs stamps slots after moves stamp newest long within joined newer each =
+changes-stamped arcs stamps slots after moves stamp newest long within joined newer each =
     let old = changes arcs stamps slots in
     let old_long = length-changes arcs stamps slots long in
     let f = λ (p : ArcRecord × ℕ). cond (eqb (moved_to moves p.0.target) p.0.target) p.1 stamp in
@@ -134,16 +132,6 @@ changes-push (a ∷ arcs) (s ∷ stamps) slots arc stamp long = ap (λ xs. chang
 pub take_seam : (n : ℕ) (xs ys : List ℕ) → n ≡ length xs → take n (xs ++ ys) ≡ xs
 take_seam n xs ys same = ap (λ m. take m (xs ++ ys)) same ∙ take-append_seam xs ys
 
-slice_get_at : (xs : List ℕ) (i d : ℕ) → i < length xs → slice_get xs i ≡ Some (get_or xs i d)
-slice_get_at [] i d inside = absurd (omega arith)
-slice_get_at (x ∷ xs) zero d inside = refl
-slice_get_at (x ∷ xs) (suc i) d inside = slice_get_at xs i d (omega arith)
-
-get_or_slice_get : (xs : List ArcRecord) (i : ℕ) (x : ArcRecord) → slice_get xs i ≡ Some x → get_or xs i no_arc ≡ x
-get_or_slice_get [] i x at = absurd (none-some x at)
-get_or_slice_get (y ∷ ys) zero x at = same_Some y x at
-get_or_slice_get (y ∷ ys) (suc i) x at = get_or_slice_get ys i x at
-
 -- no arc changed after the greatest stamp
 last_change_old : (list newest : ℕ) (arc : ArcStamp) → list ≤ newest → arc.own ≤ newest → last_change list arc ≤ newest
 last_change_old list newest arc list_old arc_old = cond_both (ltb arc.joined list) list arc.own (λ c. c ≤ newest) (λ _. list_old) (λ _. arc_old)
@@ -172,7 +160,7 @@ module _ (lists : Linked) (stamps : List ArcStamp) (slots : List ℕ) (newest ca
       below = slice_get_within lists.arcs arc r at
 
       target : target_of lists.arcs arc ≡ r.target
-      target = ap (λ x. x.target) (get_or_slice_get lists.arcs arc r at)
+      target = ap (λ x. x.target) (get_or_from_slice_get lists.arcs arc r no_arc at)
 
       pub target_inside : r.target < length slots
       target_inside = omega (arith, target, valid.within arc below, is.slots_long)
@@ -180,7 +168,7 @@ module _ (lists : Linked) (stamps : List ArcStamp) (slots : List ℕ) (newest ca
       pub changed_seen : (list own : ℕ) (stamp : ArcStamp) → list ≡ get_or slots r.target list → stamp ≡ get_or stamps arc stamp → own ≡ last_change list stamp → slice_get pool.changed arc ≡ Some own
       changed_seen list own stamp list_read stamp_read made =
           ap (λ m. slice_get m.changed arc) (sym view_is)
-          ∙ slice_get_at (changes lists.arcs stamps slots) arc 0 (omega (arith, below, length-changes lists.arcs stamps slots is.arcs_long))
+          ∙ slice_get-get_or (changes lists.arcs stamps slots) arc 0 (omega (arith, below, length-changes lists.arcs stamps slots is.arcs_long))
           ∙ ap Some (change_at lists.arcs stamps slots arc 0 is.arcs_long below
           ∙ ap (λ t. last_change (get_or slots t 0) (get_or stamps arc no_stamp)) target
           ∙ ap (λ l. last_change l (get_or stamps arc no_stamp)) (sym (get_or_read slots r.target list target_inside list_read 0))
@@ -224,8 +212,8 @@ module _ (lists : Linked) (stamps : List ArcStamp) (slots : List ℕ) (newest ca
         ∙ ap (λ x. changes lists.arcs stamps slots ++ x ∷ []) fresh ∙ ap (λ m. m.changed ++ 0 ∷ []) view_is
 
     -- the moves' slots are stamped
-    pub marked_changes : (moves : List (ℕ × ℕ)) (stamp : ℕ) (after : List ℕ) → pool.newest < stamp → AreMarked moves stamp slots after → IsValidLists lists
+    pub stamped_changes : (moves : List (ℕ × ℕ)) (stamp : ℕ) (after : List ℕ) → pool.newest < stamp → AreStamped moves stamp slots after → IsValidLists lists
         → changes lists.arcs stamps after ≡ changed_by moves stamp pool.arcs pool.changed
-    marked_changes moves stamp after newer are valid =
-        changes-marked lists.arcs stamps slots after moves stamp newest is.arcs_long (λ k below. omega (arith, valid.within k below, is.slots_long)) is.arcs_old (omega (arith, ap (λ m. m.newest) view_is)) are.each
+    stamped_changes moves stamp after newer are valid =
+        changes-stamped lists.arcs stamps slots after moves stamp newest is.arcs_long (λ k below. omega (arith, valid.within k below, is.slots_long)) is.arcs_old (omega (arith, ap (λ m. m.newest) view_is)) are.each
         ∙ ap (λ m. changed_by moves stamp m.arcs m.changed) view_is

@@ -4,13 +4,13 @@ use Rattle.dactl_arcs.specs.declared.lists.ArcRecord.{ArcRecord}
 use Rattle.dactl_arcs.specs.Linked.{Linked, list_of}
 use Rattle.dactl_arcs.specs.Moves.{sent_to}
 
--- the name of a list, and the home of a slot
-abbrev pub entry : List ℕ → ℕ → ℕ
-entry table n = slice_index_or table n 0
+-- what a table has at a number: the name of a list, or the home of a slot
+abbrev pub number_at : List ℕ → ℕ → ℕ
+number_at table n = slice_index_or table n 0
 
 -- the record of an arc that names its list, by the slot that the list stands for
 abbrev pub named : List ℕ → ArcRecord → ArcRecord
-named names arc = sent_to (entry names arc.target) arc
+named names arc = sent_to (number_at names arc.target) arc
 
 -- the lists by the slots that they stand for
 abbrev pub named_pool : Linked → List ℕ → List ℕ → Linked
@@ -24,8 +24,10 @@ named_pool lists names homes = record {
 pub record IsNaming (count : ℕ) (names homes : List ℕ) : Type 0 where
   pub names_long : length names ≡ count
   pub homes_long : length homes ≡ count
-  pub home : (slot : ℕ) → slot < count → (entry homes slot < count) × (entry names (entry homes slot) ≡ slot)
-  pub name : (list : ℕ) → list < count → (entry names list < count) × (entry homes (entry names list) ≡ list)
+  pub home : (slot : ℕ) → slot < count
+      → (number_at homes slot < count) × (number_at names (number_at homes slot) ≡ slot)
+  pub name : (list : ℕ) → list < count
+      → (number_at names list < count) × (number_at homes (number_at names list) ≡ list)
 
 -- two slots in each other's place
 abbrev pub swapped_slot : ℕ → ℕ → ℕ → ℕ
@@ -37,4 +39,4 @@ swapped from to arc = sent_to (swapped_slot from to arc.target) arc
 -- each number stands at its own place
 pub record IsCounting (count : ℕ) (numbers : List ℕ) : Type 0 where
   pub long : length numbers ≡ count
-  pub each : (n : ℕ) → n < count → entry numbers n ≡ n
+  pub each : (n : ℕ) → n < count → number_at numbers n ≡ n

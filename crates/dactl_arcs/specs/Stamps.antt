@@ -20,12 +20,14 @@ changes arcs stamps slots = map (change_of slots) (zip arcs stamps)
 
 -- the last changes once the moves have happened: the stamp for each arc that they send elsewhere
 abbrev pub changed_by : List (ℕ × ℕ) → ℕ → List ArcRecord → List ℕ → List ℕ
-changed_by moves stamp arcs changed = map (λ p. if moved_to moves p.0.target == p.0.target then p.1 else stamp) (zip arcs changed)
+changed_by moves stamp arcs changed =
+    map (λ p. if moved_to moves p.0.target == p.0.target then p.1 else stamp) (zip arcs changed)
 
 -- each slot that the moves send elsewhere has the stamp, and each other keeps its own
-pub record AreMarked (moves : List (ℕ × ℕ)) (stamp : ℕ) (old new : List ℕ) : Type 0 where
+pub record AreStamped (moves : List (ℕ × ℕ)) (stamp : ℕ) (old new : List ℕ) : Type 0 where
   pub long : length new ≡ length old
-  pub each : (slot : ℕ) → slot < length old → slice_index_or new slot 0 ≡ (if moved_to moves slot == slot then slice_index_or old slot 0 else stamp)
+  pub each : (slot : ℕ) → slot < length old
+      → slice_index_or new slot 0 ≡ (if moved_to moves slot == slot then slice_index_or old slot 0 else stamp)
 
 -- what holds of all lists with stamps
 pub record IsValidStamped (pool : Pool) : Type 0 where
@@ -34,7 +36,8 @@ pub record IsValidStamped (pool : Pool) : Type 0 where
   pub changed_old : All (λ stamp. stamp ≤ pool.newest) pool.changed
 
 -- how the stamps lie beside the arcs and the slots
-pub record IsStamped (lists : Linked) (stamps : List ArcStamp) (slots : List ℕ) (newest capacity : ℕ) : Type 0 where
+pub record IsStamped (lists : Linked) (stamps : List ArcStamp) (slots : List ℕ) (newest capacity : ℕ)
+    : Type 0 where
   pub arcs_long : length stamps ≡ length lists.arcs
   pub slots_long : length slots ≡ slot_count lists
   pub taken : lists.room ≤ capacity

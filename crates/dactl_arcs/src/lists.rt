@@ -1,4 +1,4 @@
-//! Arcs in lists: a slot for each list, and in it the arcs whose target the slot is.
+//! Arcs in lists: for each slot, the arcs whose target it is.
 
 ghost use Rattle.std.specs.Prelude.{◌≡◌, ◌≢◌, ◌+◌, ◌<◌, [], ◌∷◌, ◌++◌, length, map, nat_le, slice_get, slice_set, Some, IfOk, IfSome};
 ghost use Rattle.dactl_arcs.specs.Pool.{target_of, rest_of_walk};
@@ -8,7 +8,7 @@ ghost use Rattle.dactl_arcs.specs.Moves.{record_at, sent_to, idle, cleared};
 use std::alloc::{AllocError, Global};
 use std::marker::Model;
 
-/// Want of memory.
+/// There is not enough memory.
 pub type Memory = AllocError;
 
 /// An arc: the node it starts from, the node it leads to, and whether its owner waits along it.
@@ -159,7 +159,7 @@ impl Lists {
     }
 
     /// Whether one slot's list is at most as long as another's. It takes time for the shorter of them.
-    pub fn is_shorter(&self, one: u32, other: u32) -> bool
+    pub fn is_at_most_as_long(&self, one: u32, other: u32) -> bool
         requires one { one < slot_count self.now }
         requires other { other < slot_count self.now }
         ensures { result ≡ nat_le (length (list_of self.now one)) (length (list_of self.now other)) }

@@ -1,5 +1,5 @@
-//! Lists that stand for slots. What merges two lists may keep either of them, since the one that is kept
-//! can stand for the other's slot from then on.
+//! Lists of arcs under names. Who merges the lists of two slots may keep either, since the one that is kept
+//! can be named for the other slot.
 
 ghost use Rattle.std.specs.Prelude.{◌≡◌, ◌≢◌, ◌+◌, ◌<◌, ◌≤◌, [], ◌∷◌, ◌++◌, length, map, nat_le, slice_get, slice_set, Some, IfOk, IfSome};
 ghost use Rattle.dactl_arcs.specs.Pool.{target_of, rest_of_walk};
@@ -11,10 +11,10 @@ use crate::lists::{ArcRecord, Lists, Memory};
 use std::alloc::Global;
 use std::marker::Model;
 
-/// A list of arcs for each slot.
+/// A list of arcs for each slot. Two slots can change their lists in constant time.
 #[derive(Drop)]
-pub struct Named {
-    // The target of each arc there is a list.
+pub struct NamedLists {
+    // The target of each of these arcs is its list.
     lists: Lists,
     // The slot of each list.
     names: Vec<u32>,
@@ -22,7 +22,7 @@ pub struct Named {
     homes: Vec<u32>,
 }
 
-impl Model for Named {
+impl Model for NamedLists {
     ghost use Rattle.dactl_arcs.specs.Linked.{Linked, slot_count};
 
     ghost Value = { Linked };
@@ -34,8 +34,8 @@ impl Model for Named {
     ghost invariant = { λ n. IsNaming (slot_count n.lists) n.names.items n.homes.items };
 }
 
-// The numbers below this one.
-fn counted(alloc: Global, count: u32) -> Result<Vec<u32>, Memory>
+// The numbers below `count`, in ascending order.
+fn numbers_below(alloc: Global, count: u32) -> Result<Vec<u32>, Memory>
     ensures { IfOk result (λ all. IsCounting count all.items) }
 {
     let mut all = Vec::with_capacity(alloc, count as usize)?;
@@ -45,17 +45,17 @@ fn counted(alloc: Global, count: u32) -> Result<Vec<u32>, Memory>
     Ok(all)
 }
 
-impl Named {
+impl NamedLists {
     /// Empty lists, so many of them, with room for so many arcs.
-    pub fn with_room(alloc: Global, slots: u32, arcs: u32) -> Result<Named, Memory>
+    pub fn with_room(alloc: Global, slots: u32, arcs: u32) -> Result<NamedLists, Memory>
         ensures arcs { IfOk result (λ lists. lists.arcs ≡ []) }
         ensures slots { IfOk result (λ lists. slot_count lists ≡ slots) }
         ensures room { IfOk result (λ lists. lists.room ≡ arcs) }
     {
-        Ok(Named {
+        Ok(NamedLists {
             lists: Lists::with_room(alloc, slots as usize, arcs)?,
-            names: counted(alloc, slots)?,
-            homes: counted(alloc, slots)?,
+            names: numbers_below(alloc, slots)?,
+            homes: numbers_below(alloc, slots)?,
         })
     }
 
@@ -121,15 +121,14 @@ impl Named {
         self.lists.first_into(self.homes[slot as usize])
     }
 
-    /// Whether the list of one slot is at most as long as that of another. It takes time for the shorter
-    /// of them.
-    pub fn is_shorter(&self, one: u32, other: u32) -> bool
+    /// Whether one slot's list is at most as long as another's. It takes time for the shorter of them.
+    pub fn is_at_most_as_long(&self, one: u32, other: u32) -> bool
         requires one { one < slot_count self.now }
         requires other { other < slot_count self.now }
         ensures { result ≡ nat_le (length (list_of self.now one)) (length (list_of self.now other)) }
     {
         self.lists
-            .is_shorter(self.homes[one as usize], self.homes[other as usize])
+            .is_at_most_as_long(self.homes[one as usize], self.homes[other as usize])
     }
 
     /// Adds the arc in front of the list of its target.
@@ -160,7 +159,7 @@ impl Named {
             .move_first(arc, self.homes[from as usize], self.homes[to as usize]);
     }
 
-    /// Gives each of two slots the other's list, in a time that doesn't depend on the lists.
+    /// Gives each of two slots the other's list, in constant time.
     pub fn swap(&mut self, from: u32, to: u32)
         requires different { from ≢ to }
         requires from_in_range { from < slot_count self.old }

@@ -1,4 +1,4 @@
-//! The pool.
+//! The pool: arcs between numbered nodes, and the redirection of all arcs into a node.
 
 ghost use Rattle.std.specs.Prelude.{◌≡◌, ◌+◌, ◌<◌, ◌≤◌, ◌^◌, ◌↔◌, [], ◌∷◌, ◌++◌, length, map, slice_get, Some, IfOk, IfSome, OnOk, OnErr, IsErr};
 ghost use Rattle.dactl_arcs.specs.Pool.{IsValid, LeadsTo, arc_record, arcs_into, rest_of_walk, target_of, targets};
@@ -7,12 +7,12 @@ ghost use Rattle.dactl_arcs.specs.Kept.{AreBelow, IsKept};
 ghost use Rattle.dactl_arcs.specs.Stamps.{changed_by};
 
 use crate::lists::{ArcRecord, Memory};
-use crate::stamped::Stamped;
+use crate::stamped::StampedLists;
 use std::alloc::{AllocError, Global};
 use std::marker::Model;
 use thiserror::Error;
 
-/// How many pairs one call moves at most.
+/// How many pairs one redirection has at most.
 pub const MOST_MOVES: u32 = 65;
 
 /// The pool has no room for a further arc.
@@ -24,11 +24,11 @@ pub struct PoolFull;
 ///
 /// Arcs are numbered from 0 in the order in which they were added, and stay. A walk from `first_into` by
 /// `next_into` visits each arc into a node once, in an order that is left open and that may change where
-/// arcs are added or moved. No call but `with_room` takes memory.
+/// arcs are added or redirected. No call but `with_room` takes memory.
 #[derive(Drop)]
 pub struct ArcPool {
-    // The lists of the targets, and behind them the spare ones for a call that moves.
-    lists: Stamped,
+    // A slot for each target, and behind them a spare one for each pair of a redirection.
+    lists: StampedLists,
     targets: u32,
 }
 
@@ -51,9 +51,9 @@ impl Model for ArcPool {
     ghost invariant = { λ p. IsOver p.lists p.targets };
 }
 
-// Moves the arcs into the first number of each pair to the pair's own spare slot. A number that an earlier
-// pair began with has no arcs left.
-fn park(lists: &mut Stamped, moves: &[(u32, u32)], spare: u32)
+// Moves the arcs into the first number of each pair to the pair's own spare slot, which is empty, so that
+// the two change their lists. A number that an earlier pair began with has no arcs left.
+fn park(lists: &mut StampedLists, moves: &[(u32, u32)], spare: u32)
     requires slots { spare + length moves.now ≤ targets lists.old }
     requires fits { spare + length moves.now < 2 ^ 32 }
     requires below { AreBelow spare moves.now }
@@ -68,7 +68,7 @@ fn park(lists: &mut Stamped, moves: &[(u32, u32)], spare: u32)
 }
 
 // Moves the arcs in each pair's spare slot to the pair's second number.
-fn land(lists: &mut Stamped, moves: &[(u32, u32)], spare: u32)
+fn land(lists: &mut StampedLists, moves: &[(u32, u32)], spare: u32)
     requires slots { spare + length moves.now ≤ targets lists.old }
     requires fits { spare + length moves.now < 2 ^ 32 }
     requires below { AreBelow spare moves.now }
@@ -83,9 +83,12 @@ fn land(lists: &mut Stamped, moves: &[(u32, u32)], spare: u32)
 }
 
 impl ArcPool {
-    /// An empty pool, with room for so many arcs between so many nodes.
+    /// An empty pool, with room for so many arcs between so many nodes. It takes 28 bytes for each arc and
+    /// 20 for each node.
     ///
-    /// Want of memory comes at the latest where `targets` is above `u32::MAX - 65`.
+    /// # Errors
+    ///
+    /// `Memory` where there is not enough memory, and where `targets` is above `u32::MAX - MOST_MOVES`.
     pub fn with_room(alloc: Global, targets: u32, arcs: u32) -> Result<ArcPool, Memory>
         ensures arcs { IfOk result (λ pool. pool.arcs ≡ []) }
         ensures number { IfOk result (λ pool. length pool.into ≡ targets) }
@@ -96,7 +99,7 @@ impl ArcPool {
         if targets > u32::MAX - MOST_MOVES {
             return Err(AllocError);
         }
-        let lists = Stamped::with_room(alloc, targets + MOST_MOVES, arcs)?;
+        let lists = StampedLists::with_room(alloc, targets + MOST_MOVES, arcs)?;
         Ok(ArcPool { lists, targets })
     }
 
@@ -115,7 +118,11 @@ impl ArcPool {
         self.lists.room()
     }
 
-    /// Adds an arc and gives its number, the next one. A full pool stays as it is.
+    /// Adds an arc and gives its number, the next one. Its target has not changed yet.
+    ///
+    /// # Errors
+    ///
+    /// `PoolFull` where there are as many arcs as there may be. The pool stays as it is.
     pub fn add(&mut self, owner: u32, target: u32, waits: bool) -> Result<u32, PoolFull>
         requires owner { owner < targets self.old }
         requires target { target < targets self.old }
@@ -124,7 +131,6 @@ impl ArcPool {
         ensures kept { IsKept self.old self.new }
         ensures changed { OnOk result (self.new.changed ≡ self.old.changed ++ 0 ∷ []) }
         ensures newest { self.new.newest ≡ self.old.newest }
-
         ensures full { IsErr result ↔ (length self.old.arcs ≡ self.old.room) }
         ensures err { OnErr result (self.new ≡ self.old) }
     {
@@ -171,12 +177,14 @@ impl ArcPool {
         self.lists.next_into(arc)
     }
 
-    /// Sends each arc into the first number of a pair to its second, all at the same time: no arc is
-    /// moved twice, and of the pairs that begin with its target the first one counts. Each arc whose
-    /// target is another one then has the stamp, which is greater than those before.
+    /// Sends each arc into the first number of a pair to the pair's second number, all at the same time: no
+    /// arc is sent twice, and of the pairs that begin with its target the first one counts. Each arc that
+    /// has another target then changed last at this stamp.
     ///
-    /// It takes time for the pairs, and for the shorter of each two lists that merge; so an arc is moved
-    /// from list to list at most log2(arcs) times by all calls together.
+    /// Redirection merges lists, and of two lists only the arcs of the shorter one are touched. As no list
+    /// of an arc ever gets shorter, no arc is touched more than log2(arcs) times by all calls together.
+    /// (That is an argument; no clause speaks of time.) Each call also takes time for the square of the
+    /// number of pairs.
     pub fn redirect(&mut self, moves: &[(u32, u32)], stamp: u32)
         requires few { length moves.now ≤ MOST_MOVES }
         requires below { AreBelow (targets self.old) moves.now }
@@ -186,13 +194,13 @@ impl ArcPool {
         ensures newest { self.new.newest ≡ stamp }
         ensures kept { IsKept self.old self.new }
     {
-        self.lists.mark(moves, stamp);
+        self.lists.stamp_moved(moves, stamp);
         park(&mut self.lists, moves, self.targets);
         land(&mut self.lists, moves, self.targets);
     }
 
-    /// When an arc last changed its target: the stamp of the redirection, or 0 where it has the target
-    /// with which it was added.
+    /// The last change of the arc: the stamp of the redirection that gave it its target, or 0 where it has
+    /// the target with which it was added. It takes constant time.
     pub fn changed(&self, arc: u32) -> u32
         requires { arc < length self.now.arcs }
         ensures { slice_get self.now.changed arc ≡ Some result }

@@ -1,35 +1,40 @@
-//! Lists of arcs that know when each arc last changed its target.
+//! When each arc last changed its target. Stamps are given to whole lists; an arc that leaves its list takes
+//! along what the stamp of the list says of it.
 
 ghost use Rattle.std.specs.Prelude.{◌≡◌, ◌≢◌, ◌+◌, ◌<◌, ◌≤◌, ◌^◌, ◌==◌, ℕ, [], ◌∷◌, ◌++◌, length, map, slice_get, slice_set, slice_index_or, Some, IfOk, IfSome, if◌then◌else◌};
 ghost use Rattle.dactl_arcs.specs.Pool.{LeadsTo, targets, target_of, arcs_into, rest_of_walk};
 ghost use Rattle.dactl_arcs.specs.Moves.{cleared, moved_to, record_at, retargeted, sent_to};
 ghost use Rattle.dactl_arcs.specs.Kept.{AreBelow, IsKept};
 ghost use Rattle.dactl_arcs.specs.Naming.{swapped};
-ghost use Rattle.dactl_arcs.specs.Stamps.{AreMarked, IsValidStamped, changed_by, last_change};
+ghost use Rattle.dactl_arcs.specs.Stamps.{IsValidStamped, changed_by, last_change};
 
 use crate::lists::{ArcRecord, Memory};
-use crate::named::Named;
+use crate::moves::stamp_slots;
+use crate::named::NamedLists;
 use std::alloc::Global;
 use std::marker::Model;
 
-/// When an arc last changed, as far as it knows itself, and the stamp that its list had when it joined it.
+// The last change of an arc when it joined its list, and the stamp that the list had then. A list with a
+// greater stamp has changed since.
 #[derive(Clone, Copy, Drop)]
 struct ArcStamp {
     own: u32,
     joined: u32,
 }
 
-/// A list of arcs for each slot, with the last change of each arc.
+/// A list of arcs for each slot, and the last change of each arc.
 #[derive(Drop)]
-pub struct Stamped {
-    lists: Named,
+pub struct StampedLists {
+    lists: NamedLists,
+    // By the arc's number.
     stamps: Vec<ArcStamp>,
     // The stamp of each slot's list.
     slots: Vec<u32>,
+    // The greatest stamp that was given.
     newest: u32,
 }
 
-impl Model for Stamped {
+impl Model for StampedLists {
     ghost use Rattle.std.specs.Prelude.{vec_capacity};
     ghost use Rattle.dactl_arcs.specs.Pool.{Pool};
     ghost use Rattle.dactl_arcs.specs.Stamps.{IsStamped, changes};
@@ -44,61 +49,28 @@ impl Model for Stamped {
       newest = s.newest;
     } };
 
-    ghost invariant = { λ s. IsStamped s.lists s.stamps.items s.slots.items s.newest (vec_capacity s.stamps) };
+    ghost invariant = { λ s.
+        IsStamped s.lists s.stamps.items s.slots.items s.newest (vec_capacity s.stamps) };
 }
 
 // The last change of an arc whose list has this stamp.
-fn latest(list: u32, arc: ArcStamp) -> u32
+fn last_change(list: u32, arc: ArcStamp) -> u32
     ensures { result ≡ last_change list arc }
 {
     if arc.joined < list { list } else { arc.own }
 }
 
-// Where the pairs send a number: to the second one of the first pair that begins with it.
-fn moved_number(moves: &[(u32, u32)], number: u32) -> u32
-    ensures { result ≡ moved_to moves.now number }
-{
-    for pair in moves {
-        if pair.0 == number {
-            return pair.1;
-        }
-    }
-    number
-}
-
-// Gives the stamp to a slot, unless what leads to it stays.
-fn mark_one(slots: &mut [u32], from: u32, to: u32, stamp: u32)
-    requires { from < length slots.old }
-    ensures { slots.new ≡ (if to == from then slots.old else slice_set slots.old from stamp) }
-{
-    if to == from {
-        return;
-    }
-    slots[from as usize] = stamp;
-}
-
-// Gives the stamp to each slot that the pairs send elsewhere.
-fn mark(slots: &mut [u32], moves: &[(u32, u32)], stamp: u32)
-    requires below { AreBelow (length slots.old) moves.now }
-    ensures { AreMarked moves.now stamp slots.old slots.new }
-{
-    for pair in moves {
-        let to = moved_number(moves, pair.0);
-        mark_one(slots, pair.0, to, stamp);
-    }
-}
-
-impl Stamped {
+impl StampedLists {
     /// Empty lists, so many of them, with room for so many arcs.
-    pub fn with_room(alloc: Global, slots: u32, arcs: u32) -> Result<Stamped, Memory>
+    pub fn with_room(alloc: Global, slots: u32, arcs: u32) -> Result<StampedLists, Memory>
         ensures arcs { IfOk result (λ s. s.arcs ≡ []) }
         ensures slots { IfOk result (λ s. targets s ≡ slots) }
         ensures room { IfOk result (λ s. s.room ≡ arcs) }
         ensures changed { IfOk result (λ s. s.changed ≡ []) }
         ensures newest { IfOk result (λ s. s.newest ≡ 0) }
     {
-        Ok(Stamped {
-            lists: Named::with_room(alloc, slots, arcs)?,
+        Ok(StampedLists {
+            lists: NamedLists::with_room(alloc, slots, arcs)?,
             stamps: Vec::with_capacity(alloc, arcs as usize)?,
             slots: vec![in alloc; 0; slots as usize]?,
             newest: 0,
@@ -171,7 +143,7 @@ impl Stamped {
         ensures { slice_get self.now.changed arc ≡ Some result }
     {
         let target = self.lists.arc(arc).target;
-        latest(self.slots[target as usize], self.stamps[arc as usize])
+        last_change(self.slots[target as usize], self.stamps[arc as usize])
     }
 
     /// The first arc of the slot's list.
@@ -198,7 +170,7 @@ impl Stamped {
         ensures newest { self.new.newest ≡ self.old.newest }
     {
         self.lists.move_first(arc, from, to);
-        let own = latest(self.slots[from as usize], self.stamps[arc as usize]);
+        let own = last_change(self.slots[from as usize], self.stamps[arc as usize]);
         let joined = self.slots[to as usize];
         self.stamps[arc as usize] = ArcStamp { own, joined };
     }
@@ -219,8 +191,8 @@ impl Stamped {
         self.slots[to as usize] = one;
     }
 
-    // Moves all arcs of one slot to another, one by one.
-    fn pour(&mut self, from: u32, to: u32)
+    // Moves all arcs of a slot to another, one by one.
+    fn move_all(&mut self, from: u32, to: u32)
         requires different { from ≢ to }
         requires from_in_range { from < targets self.old }
         requires to_in_range { to < targets self.old }
@@ -234,7 +206,7 @@ impl Stamped {
         }
     }
 
-    /// Moves all arcs of one slot to another, in the time for the shorter of the two lists.
+    /// Moves all arcs of a slot to another, in the time for the shorter of the two lists.
     pub fn merge(&mut self, from: u32, to: u32)
         requires different { from ≢ to }
         requires from_in_range { from < targets self.old }
@@ -244,16 +216,17 @@ impl Stamped {
         ensures changed { self.new.changed ≡ self.old.changed }
         ensures newest { self.new.newest ≡ self.old.newest }
     {
-        if self.lists.is_shorter(from, to) {
-            self.pour(from, to);
+        if self.lists.is_at_most_as_long(from, to) {
+            self.move_all(from, to);
             return;
         }
-        self.pour(to, from);
+        self.move_all(to, from);
         self.swap(from, to);
     }
 
-    /// Gives the stamp to each arc whose target the pairs send elsewhere, in the time for the pairs.
-    pub fn mark(&mut self, moves: &[(u32, u32)], stamp: u32)
+    /// Gives the stamp to each arc whose target the pairs send elsewhere, in a time that doesn't depend on the
+    /// arcs.
+    pub fn stamp_moved(&mut self, moves: &[(u32, u32)], stamp: u32)
         requires below { AreBelow (targets self.old) moves.now }
         requires newer { self.old.newest < stamp }
         ensures arcs { self.new.arcs ≡ self.old.arcs }
@@ -263,7 +236,7 @@ impl Stamped {
         ensures newest { self.new.newest ≡ stamp }
     {
         let _ = self.lists.len();
-        mark(&mut self.slots, moves, stamp);
+        stamp_slots(&mut self.slots, moves, stamp);
         self.newest = stamp;
     }
 }
