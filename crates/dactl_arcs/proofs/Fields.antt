@@ -8,8 +8,8 @@ use Rattle.std.proofs.lemmas.List.{length-map, length_push, get_or-map, get_or_r
 use Rattle.std.proofs.lemmas.Option.{none-some, same_Some}
 use Rattle.dactl_arcs.specs.declared.lists.ArcRecord.{ArcRecord}
 use Rattle.dactl_arcs.specs.declared.lists.LinkedArc.{LinkedArc}
-use Rattle.dactl_arcs.specs.Pool.{Pool, IsWalk, LeadsTo, has, arcs_into, from_arc, rest_of_walk, target_of, targets}
-use Rattle.dactl_arcs.specs.Kept.{IsValidLists}
+use Rattle.dactl_arcs.specs.Pool.{IsWalk, has, from_arc, rest_of_walk, target_of}
+use Rattle.dactl_arcs.specs.Linked.{Linked, IsIn, list_of, slot_count, IsValidLists}
 use Rattle.dactl_arcs.specs.Moves.{record_at}
 use Rattle.dactl_arcs.specs.Links.{unlinked, next_of, records_of, lists_of, IsList, AreLists, IsSound}
 use Rattle.dactl_arcs.proofs.Walks.{IsDistinct-from_apart, has-at, has-from_arc, has_front, next_step, whole_walk}
@@ -42,40 +42,40 @@ module _ (firsts : List (Option ℕ)) (arcs : List LinkedArc) (room capacity : �
     walks = λ slot inside. walk_of slot (omega (arith, sound.lists.long));
   }
 
-  module _ (pool : Pool) (view_is : record { arcs = records_of arcs; into = lists_of firsts arcs; room = room } ≡ pool) where
+  module _ (pool : Linked) (view_is : record { arcs = records_of arcs; into = lists_of firsts arcs; room = room } ≡ pool) where
     pub valid : IsValidLists pool
     valid = subst IsValidLists view_is valid_seen
 
-    in_slots : (slot : ℕ) → slot < targets pool → slot < length firsts
-    in_slots slot inside = omega (arith, ap targets view_is, sound.lists.long)
+    in_slots : (slot : ℕ) → slot < slot_count pool → slot < length firsts
+    in_slots slot inside = omega (arith, ap slot_count view_is, sound.lists.long)
 
     in_arcs : (arc : ℕ) → arc < length pool.arcs → arc < length arcs
     in_arcs arc inside = omega (arith, ap (λ p. length p.arcs) view_is, length-map arcs (λ l. l.arc))
 
-    pub first_read : (slot : ℕ) (first : Option ℕ) → slot < targets pool → first ≡ get_or firsts slot first → first ≡ slice_get (arcs_into pool slot) 0
+    pub first_read : (slot : ℕ) (first : Option ℕ) → slot < slot_count pool → first ≡ get_or firsts slot first → first ≡ slice_get (list_of pool slot) 0
     first_read slot first inside read =
         let below = in_slots slot inside in
         get_or_read firsts slot first below read None
         ∙ first_is arcs (get_or firsts slot None) (get_or (lists_of firsts arcs) slot []) (sound.lists.each slot below).follows
-        ∙ ap (λ p. slice_get (arcs_into p slot) 0) view_is
+        ∙ ap (λ p. slice_get (list_of p slot) 0) view_is
 
-    pub whole_read : (slot : ℕ) (first : Option ℕ) → slot < targets pool → first ≡ get_or firsts slot first → rest_of_walk first (arcs_into pool slot) ≡ arcs_into pool slot
+    pub whole_read : (slot : ℕ) (first : Option ℕ) → slot < slot_count pool → first ≡ get_or firsts slot first → rest_of_walk first (list_of pool slot) ≡ list_of pool slot
     whole_read slot first inside read =
-        ap (λ o. rest_of_walk o (arcs_into pool slot)) (first_read slot first inside read) ∙ whole_walk (arcs_into pool slot)
+        ap (λ o. rest_of_walk o (list_of pool slot)) (first_read slot first inside read) ∙ whole_walk (list_of pool slot)
 
     -- what is on a walk leads to its target
-    on_walk : (slot arc : ℕ) → slot < length firsts → has (get_or (lists_of firsts arcs) slot []) arc ≡ true → LeadsTo pool slot arc
+    on_walk : (slot arc : ℕ) → slot < length firsts → has (get_or (lists_of firsts arcs) slot []) arc ≡ true → IsIn pool slot arc
     on_walk slot arc inside present =
         let list = sound.lists.each slot inside in
         let parts = and_parts (ltb arc (length arcs)) (eqb (target_of (records_of arcs) arc) slot) (sym (list.members arc) ∙ present) in
         let below : arc < length (records_of arcs) = omega (arith, ltb-true arc (length arcs) parts.0, length-map arcs (λ l. l.arc)) in
-        subst (λ p. LeadsTo p slot arc) view_is (below, eqb-true (target_of (records_of arcs) arc) slot parts.1)
+        subst (λ p. IsIn p slot arc) view_is (below, eqb-true (target_of (records_of arcs) arc) slot parts.1)
 
-    pub first_leads : (slot : ℕ) (first : Option ℕ) → slot < targets pool → first ≡ get_or firsts slot first → IfSome first (LeadsTo pool slot)
+    pub first_leads : (slot : ℕ) (first : Option ℕ) → slot < slot_count pool → first ≡ get_or firsts slot first → IfSome first (IsIn pool slot)
     first_leads slot None inside read = tt
     first_leads slot (Some arc) inside read =
         let at_front = first_read slot (Some arc) inside read in
-        let walk = ap (λ p. slice_get (arcs_into p slot) 0) view_is in
+        let walk = ap (λ p. slice_get (list_of p slot) 0) view_is in
         on_walk slot arc (in_slots slot inside) (has-at (get_or (lists_of firsts arcs) slot []) 0 arc (walk ∙ sym at_front))
 
     module _ (arc : ℕ) (linked : LinkedArc) (inside : arc < length pool.arcs) (read : linked ≡ get_or arcs arc linked) where
@@ -93,23 +93,23 @@ module _ (firsts : List (Option ℕ)) (arcs : List LinkedArc) (room capacity : �
           ap (λ l. l.next) (get_or_read arcs arc linked below read unlinked)
           ∙ next_is arcs (get_or firsts (target_of (records_of arcs) arc) None) (get_or (lists_of firsts arcs) (target_of (records_of arcs) arc) []) arc list.follows present
 
-      pub next_read : linked.next ≡ slice_get (from_arc arc (arcs_into pool (target_of pool.arcs arc))) 1
-      next_read = next_seen ∙ ap (λ p. slice_get (from_arc arc (arcs_into p (target_of p.arcs arc))) 1) view_is
+      pub next_read : linked.next ≡ slice_get (from_arc arc (list_of pool (target_of pool.arcs arc))) 1
+      next_read = next_seen ∙ ap (λ p. slice_get (from_arc arc (list_of p (target_of p.arcs arc))) 1) view_is
 
-      pub rest_read : from_arc arc (arcs_into pool (target_of pool.arcs arc)) ≡ arc ∷ rest_of_walk linked.next (arcs_into pool (target_of pool.arcs arc))
+      pub rest_read : from_arc arc (list_of pool (target_of pool.arcs arc)) ≡ arc ∷ rest_of_walk linked.next (list_of pool (target_of pool.arcs arc))
       rest_read =
           let walk = get_or (lists_of firsts arcs) (target_of (records_of arcs) arc) [] in
           let step : from_arc arc walk ≡ arc ∷ rest_of_walk linked.next walk = next_step arc walk list.apart present ∙ ap (λ o. arc ∷ rest_of_walk o walk) (sym next_seen) in
-          subst (λ p. from_arc arc (arcs_into p (target_of p.arcs arc)) ≡ arc ∷ rest_of_walk linked.next (arcs_into p (target_of p.arcs arc))) view_is step
+          subst (λ p. from_arc arc (list_of p (target_of p.arcs arc)) ≡ arc ∷ rest_of_walk linked.next (list_of p (target_of p.arcs arc))) view_is step
 
-      next_leads : (next : Option ℕ) → next ≡ slice_get (from_arc arc (get_or (lists_of firsts arcs) (target_of (records_of arcs) arc) [])) 1 → IfSome next (LeadsTo pool (target_of (records_of arcs) arc))
+      next_leads : (next : Option ℕ) → next ≡ slice_get (from_arc arc (get_or (lists_of firsts arcs) (target_of (records_of arcs) arc) [])) 1 → IfSome next (IsIn pool (target_of (records_of arcs) arc))
       next_leads None at = tt
       next_leads (Some next) at =
           let walk = get_or (lists_of firsts arcs) (target_of (records_of arcs) arc) [] in
           on_walk (target_of (records_of arcs) arc) next (sound.lists.within arc below) (has-from_arc arc walk next (has-at (from_arc arc walk) 1 next (sym at)))
 
-      pub next_leads_on : IfSome linked.next (LeadsTo pool (target_of pool.arcs arc))
-      next_leads_on = subst (λ t. IfSome linked.next (LeadsTo pool t)) (ap (λ p. target_of p.arcs arc) view_is) (next_leads linked.next next_seen)
+      pub next_leads_on : IfSome linked.next (IsIn pool (target_of pool.arcs arc))
+      next_leads_on = subst (λ t. IfSome linked.next (IsIn pool t)) (ap (λ p. target_of p.arcs arc) view_is) (next_leads linked.next next_seen)
 
       record_is : linked.arc ≡ record_at pool.arcs arc
       record_is =
@@ -134,7 +134,7 @@ module _ (firsts : List (Option ℕ)) (arcs : List LinkedArc) (room capacity : �
           }
 
     -- a new arc
-    pub IsSound-added : (arc : LinkedArc) (number : ℕ) (items : List LinkedArc) → number ≡ length arcs → length pool.arcs < pool.room → arc.arc.target < targets pool → arc.next ≡ get_or firsts arc.arc.target arc.next → items ≡ arcs ++ arc ∷ [] → IsSound (set firsts arc.arc.target (Some number)) items room capacity
+    pub IsSound-added : (arc : LinkedArc) (number : ℕ) (items : List LinkedArc) → number ≡ length arcs → length pool.arcs < pool.room → arc.arc.target < slot_count pool → arc.next ≡ get_or firsts arc.arc.target arc.next → items ≡ arcs ++ arc ∷ [] → IsSound (set firsts arc.arc.target (Some number)) items room capacity
     IsSound-added arc number items counted has_room inside read pushed =
         let below = in_slots arc.arc.target inside in
         let linked = get_or_read firsts arc.arc.target arc.next below read None in
@@ -149,9 +149,9 @@ module _ (firsts : List (Option ℕ)) (arcs : List LinkedArc) (room capacity : �
         subst (λ n. IsSound (set firsts arc.arc.target (Some n)) items room capacity) (sym counted) (subst (λ xs. IsSound (set firsts arc.arc.target (Some (length arcs))) xs room capacity) (sym pushed) all)
 
     -- the first arc of a list goes in front of another
-    module _ (arc from to : ℕ) (different : from ≢ to) (from_in : from < targets pool) (to_in : to < targets pool) (at_front : slice_get (arcs_into pool from) 0 ≡ Some arc) where
+    module _ (arc from to : ℕ) (different : from ≢ to) (from_in : from < slot_count pool) (to_in : to < slot_count pool) (at_front : slice_get (list_of pool from) 0 ≡ Some arc) where
       split : get_or (lists_of firsts arcs) from [] ≡ arc ∷ drop 1 (get_or (lists_of firsts arcs) from [])
-      split = front_and_rest (get_or (lists_of firsts arcs) from []) arc (ap (λ p. slice_get (arcs_into p from) 0) view_is ∙ at_front)
+      split = front_and_rest (get_or (lists_of firsts arcs) from []) arc (ap (λ p. slice_get (list_of p from) 0) view_is ∙ at_front)
 
       pub front_inside : arc < length arcs
       front_inside =
@@ -160,6 +160,9 @@ module _ (firsts : List (Option ℕ)) (arcs : List LinkedArc) (room capacity : �
 
       pub front_seen : arc < length pool.arcs
       front_seen = omega (arith, front_inside, ap (λ p. length p.arcs) view_is, length-map arcs (λ l. l.arc))
+
+      pub front_leads : IsIn pool from arc
+      front_leads = on_walk from arc (in_slots from from_in) (has-at (get_or (lists_of firsts arcs) from []) 0 arc (ap (λ p. slice_get (list_of p from) 0) view_is ∙ at_front))
 
       module _ (linked moved : LinkedArc) (behind : Option ℕ) (read : linked ≡ get_or arcs arc linked) (read_behind : behind ≡ get_or firsts to behind) (sent : moved.arc.target ≡ to) (joined : moved.next ≡ behind) where
         next_known : linked.next ≡ next_of arcs arc
@@ -180,7 +183,7 @@ module _ (firsts : List (Option ℕ)) (arcs : List LinkedArc) (room capacity : �
           lists = read_lists _ _ _ lists_moved;
         }
 
-        pub length-moved : length (get_or (lists_of (set (set firsts from linked.next) to (Some arc)) (set arcs arc moved)) from []) + 1 ≡ length (arcs_into pool from)
+        pub length-moved : length (get_or (lists_of (set (set firsts from linked.next) to (Some arc)) (set arcs arc moved)) from []) + 1 ≡ length (list_of pool from)
         length-moved =
             let rest = drop 1 (get_or (lists_of firsts arcs) from []) in
             let old_lists = lists_of firsts arcs in
@@ -189,5 +192,5 @@ module _ (firsts : List (Option ℕ)) (arcs : List LinkedArc) (room capacity : �
             let in_lists : from < length old_lists = omega (arith, sound.lists.long, in_slots from from_in) in
             let left : get_or new_lists from [] ≡ rest = get_or-set_other (set old_lists from rest) to from (arc ∷ get_or old_lists to []) [] different ∙ get_or-set_same old_lists from rest [] in_lists in
             let new_length = ap (λ ls. length (get_or ls from [])) read_new ∙ ap length left in
-            let old_length = ap (λ p. length (arcs_into p from)) view_is in
+            let old_length = ap (λ p. length (list_of p from)) view_is in
             omega (arith, new_length, old_length, ap length split)

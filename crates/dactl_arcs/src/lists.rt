@@ -1,14 +1,14 @@
-//! Arcs in lists: a slot for each list, and in it the arcs whose target the slot is.
+//! Arcs in lists: for each slot, the arcs whose target it is.
 
-ghost use Rattle.std.specs.Prelude.{◌≡◌, ◌≢◌, ◌+◌, ◌<◌, [], ◌∷◌, ◌++◌, length, map, slice_get, slice_set, Some, IfOk, IfSome};
-ghost use Rattle.dactl_arcs.specs.Pool.{LeadsTo, targets, arcs_into, target_of, rest_of_walk};
-ghost use Rattle.dactl_arcs.specs.Moves.{record_at, retargeted, sent_to, idle, cleared};
-ghost use Rattle.dactl_arcs.specs.Kept.{IsKept, IsValidLists};
+ghost use Rattle.std.specs.Prelude.{◌≡◌, ◌≢◌, ◌+◌, ◌<◌, [], ◌∷◌, ◌++◌, length, map, nat_le, slice_get, slice_set, Some, IfOk, IfSome};
+ghost use Rattle.dactl_arcs.specs.Pool.{target_of, rest_of_walk};
+ghost use Rattle.dactl_arcs.specs.Linked.{IsIn, slot_count, list_of, IsSameSize, IsValidLists};
+ghost use Rattle.dactl_arcs.specs.Moves.{record_at, sent_to, idle, cleared};
 
 use std::alloc::{AllocError, Global};
 use std::marker::Model;
 
-/// Want of memory.
+/// There is not enough memory.
 pub type Memory = AllocError;
 
 /// An arc: the node it starts from, the node it leads to, and whether its owner waits along it.
@@ -37,9 +37,9 @@ pub struct Lists {
 
 impl Model for Lists {
     ghost use Rattle.std.specs.Prelude.{vec_capacity};
-    ghost use Rattle.dactl_arcs.specs.Pool.{Pool};
+    ghost use Rattle.dactl_arcs.specs.Linked.{Linked};
 
-    ghost Value = { Pool };
+    ghost Value = { Linked };
 
     ghost use Rattle.dactl_arcs.specs.Links.{records_of, lists_of, IsSound};
 
@@ -56,7 +56,7 @@ impl Lists {
     /// Empty lists, so many of them, with room for so many arcs.
     pub fn with_room(alloc: Global, slots: usize, arcs: u32) -> Result<Lists, Memory>
         ensures arcs { IfOk result (λ lists. lists.arcs ≡ []) }
-        ensures slots { IfOk result (λ lists. targets lists ≡ slots) }
+        ensures slots { IfOk result (λ lists. slot_count lists ≡ slots) }
         ensures room { IfOk result (λ lists. lists.room ≡ arcs) }
     {
         Ok(Lists {
@@ -82,7 +82,8 @@ impl Lists {
 
     pub fn arc(&self, arc: u32) -> ArcRecord
         requires { arc < length self.now.arcs }
-        ensures { slice_get self.now.arcs arc ≡ Some result }
+        ensures found { slice_get self.now.arcs arc ≡ Some result }
+        ensures valid { IsValidLists self.now }
     {
         self.arcs[arc as usize].arc
     }
@@ -90,9 +91,9 @@ impl Lists {
     /// Adds the arc in front of the list of its target.
     pub fn push(&mut self, arc: ArcRecord)
         requires room { length self.old.arcs < self.old.room }
-        requires target { arc.target < targets self.old }
+        requires target { arc.target < slot_count self.old }
         ensures arcs { self.new.arcs ≡ self.old.arcs ++ arc ∷ [] }
-        ensures kept { IsKept self.old self.new }
+        ensures kept { IsSameSize self.old self.new }
     {
         let number = self.arcs.len() as u32;
         let next = self.firsts[arc.target as usize];
@@ -102,10 +103,10 @@ impl Lists {
 
     /// The first arc of the slot's list.
     pub fn first_into(&self, slot: u32) -> Option<u32>
-        requires { slot < targets self.now }
-        ensures first { result ≡ slice_get (arcs_into self.now slot) 0 }
-        ensures whole { rest_of_walk result (arcs_into self.now slot) ≡ arcs_into self.now slot }
-        ensures leads { IfSome result (LeadsTo self.now slot) }
+        requires { slot < slot_count self.now }
+        ensures first { result ≡ slice_get (list_of self.now slot) 0 }
+        ensures whole { rest_of_walk result (list_of self.now slot) ≡ list_of self.now slot }
+        ensures leads { IfSome result (IsIn self.now slot) }
         ensures valid { IsValidLists self.now }
     {
         self.firsts[slot as usize]
@@ -114,24 +115,25 @@ impl Lists {
     /// The arc after this one in its list.
     pub fn next_into(&self, arc: u32) -> Option<u32>
         requires { arc < length self.now.arcs }
-        ensures next { let walk = arcs_into self.now (target_of self.now.arcs arc) in
+        ensures next { let walk = list_of self.now (target_of self.now.arcs arc) in
             result ≡ slice_get (rest_of_walk (Some arc) walk) 1 }
-        ensures rest { let walk = arcs_into self.now (target_of self.now.arcs arc) in
+        ensures rest { let walk = list_of self.now (target_of self.now.arcs arc) in
             rest_of_walk (Some arc) walk ≡ arc ∷ rest_of_walk result walk }
-        ensures leads { IfSome result (LeadsTo self.now (target_of self.now.arcs arc)) }
+        ensures leads { IfSome result (IsIn self.now (target_of self.now.arcs arc)) }
     {
         self.arcs[arc as usize].next
     }
 
-    // Moves the first arc of a list in front of another.
-    fn move_first(&mut self, arc: u32, from: u32, to: u32)
+    /// Moves the first arc of a list in front of another.
+    pub fn move_first(&mut self, arc: u32, from: u32, to: u32)
         requires different { from ≢ to }
-        requires from_in_range { from < targets self.old }
-        requires to_in_range { to < targets self.old }
-        requires first { slice_get (arcs_into self.old from) 0 ≡ Some arc }
+        requires from_in_range { from < slot_count self.old }
+        requires to_in_range { to < slot_count self.old }
+        requires first { slice_get (list_of self.old from) 0 ≡ Some arc }
         ensures arcs { self.new.arcs ≡ slice_set self.old.arcs arc (sent_to to (record_at self.old.arcs arc)) }
-        ensures fewer { length (arcs_into self.new from) + 1 ≡ length (arcs_into self.old from) }
-        ensures kept { IsKept self.old self.new }
+        ensures fewer { length (list_of self.new from) + 1 ≡ length (list_of self.old from) }
+        ensures kept { IsSameSize self.old self.new }
+        ensures leads { IsIn self.old from arc }
     {
         let LinkedArc { arc: record, next } = self.arcs[arc as usize];
         let behind = self.firsts[to as usize];
@@ -156,22 +158,27 @@ impl Lists {
         self.arcs[arc as usize].arc.waits = false;
     }
 
-    /// Moves all arcs of one slot to another.
-    pub fn move_all(&mut self, from: u32, to: u32)
-        requires different { from ≢ to }
-        requires from_in_range { from < targets self.old }
-        requires to_in_range { to < targets self.old }
-        ensures arcs { self.new.arcs ≡ map (retargeted ((from, to) ∷ [])) self.old.arcs }
-        ensures kept { IsKept self.old self.new }
+    /// Whether one slot's list is at most as long as another's. It takes time for the shorter of them.
+    pub fn is_at_most_as_long(&self, one: u32, other: u32) -> bool
+        requires one { one < slot_count self.now }
+        requires other { other < slot_count self.now }
+        ensures { result ≡ nat_le (length (list_of self.now one)) (length (list_of self.now other)) }
     {
-        while let Some(arc) = self.first_into(from) {
-            self.move_first(arc, from, to);
+        let mut left = self.first_into(one);
+        let mut right = self.first_into(other);
+        while let Some(arc) = left {
+            left = self.next_into(arc);
+            let Some(beside) = right else {
+                return false;
+            };
+            right = self.next_into(beside);
         }
+        true
     }
 
     /// Clears the flags of the arcs in the slot's list.
     pub fn clear_waits(&mut self, slot: u32)
-        requires { slot < targets self.old }
+        requires { slot < slot_count self.old }
         ensures arcs { self.new.arcs ≡ map (cleared slot) self.old.arcs }
         ensures into { self.new.into ≡ self.old.into }
         ensures room { self.new.room ≡ self.old.room }

@@ -1,7 +1,7 @@
-//! A caller that walks, one run through the calls with the records that a reader would write down, and a
-//! pool at the greatest size.
+//! Three arcs between four nodes, with the records that a reader would write down, and a pool at the greatest
+//! size.
 
-ghost use Rattle.std.specs.Prelude.{◌≡◌, ◌<◌, map, length, IfOk};
+ghost use Rattle.std.specs.Prelude.{◌≡◌, ◌<◌, ℕ, map, IfOk};
 ghost use Rattle.dactl_arcs.specs.Moves.{record_at};
 ghost use Rattle.dactl_arcs.specs.Pool.{arcs_into, targets};
 
@@ -9,10 +9,49 @@ use super::*;
 use std::alloc::{AllocError, Global};
 use std::test::Fail;
 
+fn record(owner: u32, target: u32, waits: bool) -> ArcRecord {
+    ArcRecord {
+        owner,
+        target,
+        waits,
+    }
+}
+
+// Adds three arcs, for which there is room, and one more; and whether the calls answer so.
+fn add_three(pool: &mut ArcPool) -> bool
+    requires { targets pool.old ≡ 4 }
+    ensures targets { targets pool.new ≡ 4 }
+    ensures newest { pool.new.newest ≡ pool.old.newest }
+{
+    let first = pool.add(0, 1, true).ok();
+    let second = pool.add(0, 2, false).ok();
+    let third = pool.add(3, 1, false).ok();
+    let further = pool.add(0, 0, false).ok();
+    first == Some(0) && second == Some(1) && third == Some(2) && further.is_none()
+}
+
+// Whether the pool is full of these three arcs.
+fn has_three(pool: &ArcPool, first: ArcRecord, second: ArcRecord, third: ArcRecord) -> bool {
+    pool.len() == 3
+        && pool.room() == 3
+        && pool.arc(0) == first
+        && pool.arc(1) == second
+        && pool.arc(2) == third
+}
+
+// Whether these are the last changes of three arcs.
+fn have_changed(pool: &ArcPool, first: u32, second: u32, third: u32) -> bool {
+    pool.len() == 3
+        && pool.changed(0) == first
+        && pool.changed(1) == second
+        && pool.changed(2) == third
+}
+
 // The owners of the arcs into a target, in the order of a walk.
 fn owners_into(alloc: Global, pool: &ArcPool, target: u32) -> Result<Vec<u32>, AllocError>
     requires { target < targets pool.now }
-    ensures { IfOk result (λ owners. owners.items ≡ map (λ arc. (record_at pool.now.arcs arc).owner) (arcs_into pool.now target)) }
+    ensures { let owner = λ (arc : ℕ). (record_at pool.now.arcs arc).owner in
+        IfOk result (λ owners. owners.items ≡ map owner (arcs_into pool.now target)) }
 {
     let mut owners = Vec::new(alloc);
     let mut at = pool.first_into(target);
@@ -23,6 +62,55 @@ fn owners_into(alloc: Global, pool: &ArcPool, target: u32) -> Result<Vec<u32>, A
     Ok(owners)
 }
 
+#[test]
+fn arcs_move_together_and_lose_their_flags(rt: HostRuntime) -> Result<(), Fail> {
+    let mut pool = ArcPool::with_room(rt.alloc(), 4, 3)?;
+    assert!(rt; add_three(&mut pool));
+    pool.redirect(&[(1, 2), (2, 3)], 1);
+    assert!(rt;
+        has_three(
+            &pool,
+            record(0, 2, true),
+            record(0, 3, false),
+            record(3, 2, false)
+        )
+    );
+    pool.clear_waits(2);
+    assert!(rt;
+        has_three(
+            &pool,
+            record(0, 2, false),
+            record(0, 3, false),
+            record(3, 2, false)
+        )
+    );
+    Ok(())
+}
+
+#[test]
+fn an_arc_changes_where_its_target_does(rt: HostRuntime) -> Result<(), Fail> {
+    let mut pool = ArcPool::with_room(rt.alloc(), 4, 3)?;
+    assert!(rt; add_three(&mut pool));
+    pool.redirect(&[(1, 2)], 1);
+    assert!(rt; have_changed(&pool, 1, 0, 1));
+    pool.redirect(&[(2, 2), (2, 0)], 2);
+    assert!(rt; have_changed(&pool, 1, 0, 1));
+    pool.redirect(&[(2, 3), (3, 2)], 5);
+    assert!(rt; have_changed(&pool, 5, 5, 5));
+    Ok(())
+}
+
+#[test]
+fn a_walk_visits_the_arcs_into_a_target(rt: HostRuntime) -> Result<(), Fail> {
+    let mut pool = ArcPool::with_room(rt.alloc(), 4, 3)?;
+    assert!(rt; add_three(&mut pool));
+    pool.redirect(&[(1, 3)], 1);
+    let mut owners = owners_into(rt.alloc(), &pool, 3)?;
+    owners.sort_unstable();
+    assert_eq!(rt; owners.as_slice(), [0, 3].as_slice());
+    Ok(())
+}
+
 const TARGETS: u32 = 2_000_000;
 
 const ARCS: u32 = 8_000_000;
@@ -30,7 +118,8 @@ const ARCS: u32 = 8_000_000;
 // Four arcs into each target.
 fn fill(pool: &mut ArcPool)
     requires { targets pool.old ≡ TARGETS }
-    ensures { targets pool.new ≡ TARGETS }
+    ensures number { targets pool.new ≡ TARGETS }
+    ensures newest { pool.new.newest ≡ pool.old.newest }
 {
     for arc in 0..ARCS {
         let node = arc % TARGETS;
@@ -38,69 +127,29 @@ fn fill(pool: &mut ArcPool)
     }
 }
 
-// Moves the arcs into each of the first half of the targets to one of the second, and clears their flags.
-fn move_and_clear_each(pool: &mut ArcPool)
-    requires { targets pool.old ≡ TARGETS }
+// Redirects the arcs into one target to the next, and from there to the one after it, to the end.
+fn gather(pool: &mut ArcPool)
+    requires number { targets pool.old ≡ TARGETS }
+    requires newest { pool.old.newest ≡ 0 }
+    ensures number { targets pool.new ≡ TARGETS }
 {
-    for from in 0..TARGETS / 2 {
-        let to = from + TARGETS / 2;
-        pool.move_many(&[(from, to)]);
-        pool.clear_waits(to);
+    for from in 0..TARGETS - 1 {
+        pool.redirect(&[(from, from + 1)], from + 1);
     }
 }
 
-#[test]
-fn arcs_move_together_and_lose_their_flags(rt: HostRuntime) -> Result<(), Fail> {
-    let mut pool = ArcPool::with_room(rt.alloc(), 4, 3)?;
-    assert_eq!(rt; pool.add(0, 1, true).ok(), Some(0));
-    assert_eq!(rt; pool.add(0, 2, false).ok(), Some(1));
-    assert_eq!(rt; pool.add(3, 1, false).ok(), Some(2));
-    assert!(rt; pool.add(0, 0, false).is_err());
-
-    pool.move_many(&[(1, 2), (2, 3)]);
-    assert_eq!(rt; pool.len(), 3);
-    assert_eq!(rt; pool.room(), 3);
-    assert_eq!(rt;
-        pool.arc(0),
-        ArcRecord {
-            owner: 0,
-            target: 2,
-            waits: true
-        }
-    );
-    assert_eq!(rt;
-        pool.arc(1),
-        ArcRecord {
-            owner: 0,
-            target: 3,
-            waits: false
-        }
-    );
-    assert_eq!(rt;
-        pool.arc(2),
-        ArcRecord {
-            owner: 3,
-            target: 2,
-            waits: false
-        }
-    );
-
-    let mut owners = owners_into(rt.alloc(), &pool, 2)?;
-    owners.sort_unstable();
-    assert_eq!(rt; owners.as_slice(), [0, 3].as_slice());
-
-    pool.clear_waits(2);
-    assert!(rt; !pool.arc(0).waits);
-    Ok(())
+// Whether all arcs are there, and the first one leads to the last target.
+fn is_gathered(pool: &ArcPool) -> bool {
+    pool.len() == ARCS && pool.arc(0).target == TARGETS - 1 && pool.changed(0) == TARGETS - 1
 }
 
-// A million moves and a million clearings among eight million arcs. They end in the time that a test has
-// only because none of them looks through the pool.
+// Two million redirections among eight million arcs, of which the last ones each redirect nearly all arcs.
+// They end in the time that a test has only because none of them touches the arcs of the longer list.
 #[test]
-fn calls_touch_the_arcs_they_speak_of(rt: HostRuntime) -> Result<(), Fail> {
+fn a_redirection_touches_the_shorter_list(rt: HostRuntime) -> Result<(), Fail> {
     let mut pool = ArcPool::with_room(rt.alloc(), TARGETS, ARCS)?;
     fill(&mut pool);
-    assert_eq!(rt; pool.len(), ARCS);
-    move_and_clear_each(&mut pool);
+    gather(&mut pool);
+    assert!(rt; is_gathered(&pool));
     Ok(())
 }

@@ -3,8 +3,9 @@ use Rattle.std.proofs.Common.{◌≡◌, ◌≢◌, ℕ, zero, suc, ◌+◌, ◌
 use Rattle.std.specs.List.{slice_get}
 use Rattle.std.proofs.lemmas.Bool.{eqb-true, eqb-false, ltb-true, cases_Bool}
 use Rattle.std.proofs.lemmas.Bool.Decides.{nat_tests}
-use Rattle.std.proofs.lemmas.Option.{slice_get_past, slice_get-get_or, none-some, same_Some}
+use Rattle.std.proofs.lemmas.Option.{slice_get_past, slice_get_within, slice_get-get_or, none-some, same_Some}
 use Rattle.std.proofs.lemmas.List.{length-append}
+use Rattle.std.proofs.lemmas.List.Elements.{All-append, All-map}
 use Rattle.dactl_model.specs.declared.graph.NodeId.{NodeId}
 use Rattle.dactl_model.specs.declared.graph.Node.{Node}
 use Rattle.dactl_model.specs.declared.graph.Graph.{Graph}
@@ -22,7 +23,7 @@ use Rattle.dactl_model.specs.Versions.{content, content_of}
 use Rattle.dactl_model.proofs.KeptFire.{length-old_nodes}
 use Rattle.dactl_store.specs.Held.{Held, IsValid}
 use Rattle.dactl_store.specs.Contractum.{CanAppend}
-use Rattle.dactl_store.specs.Redirecting.{IsVersioned}
+use Rattle.dactl_store.specs.Redirecting.{IsLatest, IsVersioned}
 use Rattle.dactl_firing.specs.Waking.{with_nodes}
 use Rattle.dactl_firing.specs.Body.{CanMake}
 use Rattle.dactl_firing.proofs.Settled.{same_arcs}
@@ -115,6 +116,43 @@ module _ (old first second third : Held) (n : NodeId) (h : List NodeId) (wakes :
         | inr new ↦ given_new x new there
       ];
     }
+
+-- a store that got new nodes of the version has none of a greater one
+pub latest_grown : (old new : Held) (version : ℕ) (fresh : List FreshNode) → IsLatest version old → new.newest ≡ old.newest → new.versions ≡ old.versions ++ map (λ _. version) fresh → IsLatest version new
+latest_grown old new version fresh latest same grown = record {
+  newer = omega (arith, latest.newer);
+  most = subst (All (λ v. v ≤ version)) (sym grown) (All-append (λ v. v ≤ version) old.versions (map (λ _. version) fresh) latest.most (All-map (λ v. v ≤ version) (λ _. version) fresh (λ k d below. omega arith)));
+}
+
+-- a version after it is as good
+pub latest_after : (version after : ℕ) (held : Held) → version ≤ after → IsLatest version held → IsLatest after held
+latest_after version after held later latest = record {
+  newer = omega (arith, latest.newer);
+  most = λ k d below. let most = latest.most k d below in omega arith;
+}
+
+-- a firing gives no version that is greater than its own, so the next entry's is the latest
+pub latest_next : (version : ℕ) (old new : Held) → IsLatest version old → IsVersioned version old new → new.newest ≡ version → IsLatest (version + 1) new
+latest_next version old new latest versioned given = record {
+  newer = omega (arith, given);
+  most = λ k d below.
+      let n : NodeId = record { number = k } in
+      let there : HasNode new.graph n = omega (arith, versioned.long) in
+      let at = slice_get-get_or new.versions k d below in
+      elim (cases_Bool (ltb version (get_or new.versions k d))) [
+        | inl above ↦
+            let greater = ltb-true version (get_or new.versions k d) above in
+            let kept = λ (e : content new.graph n ≡ content old.graph n).
+            let same : slice_get old.versions k ≡ Some (get_or new.versions k d) = sym (versioned.kept n there e) ∙ at in
+            let inside = slice_get_within old.versions k (get_or new.versions k d) same in
+            let least = latest.most k d inside in
+            let is : get_or old.versions k d ≡ get_or new.versions k d = same_Some _ _ (sym (slice_get-get_or old.versions k d inside) ∙ same) in
+            absurd (omega arith) in
+            let equal : get_or new.versions k d ≡ version = same_Some _ _ (sym at ∙ versioned.given n there kept) in
+            omega arith
+        | inr not_above ↦ grind (arith, nat_tests)
+      ];
+}
 
 -- a settled store has room for what the old one has
 pub can_append : (old first : Held) (symbols variables : ℕ) (h : List NodeId) (fresh : List FreshNode) → length h ≡ variables → IsValid old → All (HasNode old.graph) h → AreFreshNodes symbols variables fresh

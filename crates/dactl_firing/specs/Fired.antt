@@ -23,6 +23,7 @@ pub record HasFired (p : Program) (n : NodeId) (r version : ℕ) (old new : Held
   pub graph : IsFired p old.graph n r new.graph
   pub versions : IsVersioned version old new
   pub room : new.room ≡ old.room
+  pub newest : new.newest ≡ version
   pub woken : list ≡ acts_of_step old.graph (Fire n r) new.graph
 
 -- rule r makes more nodes or more arcs than there is room for, as both counts tell; the store is as it was, and the list is empty

@@ -45,6 +45,7 @@ pub record IsSettled (n : NodeId) (h : List NodeId) (wakes : List ℕ) (old : He
   pub graph : new.graph ≡ with_nodes old.graph (old_nodes (λ x. x) n h wakes 0 old.graph.nodes)
   pub versions : new.versions ≡ old.versions
   pub room : new.room ≡ old.room
+  pub newest : new.newest ≡ old.newest
   pub list : after.list ≡ acts_from old.graph n 0 new.graph.nodes
   pub list_room : after.room ≡ before.room
 
@@ -57,5 +58,6 @@ pub record IsMade (n : NodeId) (version : ℕ) (after : Graph) (old : Held) (bef
   pub graph : new.graph ≡ after
   pub versions : IsVersioned version old new
   pub room : new.room ≡ old.room
+  pub newest : new.newest ≡ version
   pub list : listed.list ≡ acts_from old.graph n 0 after.nodes
   pub list_room : listed.room ≡ before.room

@@ -47,6 +47,7 @@ pub record Wakes (n : NodeId) (old : Held) (before : NodeList) (new : Held) (aft
   pub graph : new.graph ≡ with_nodes old.graph (changed_at n.number (woken_node true) old.graph.nodes)
   pub versions : new.versions ≡ old.versions
   pub room : new.room ≡ old.room
+  pub newest : new.newest ≡ old.newest
   pub list : after.list ≡ (if idle_in (slice_get old.graph.nodes n.number) then before.list ++ n ∷ [] else before.list)
   pub list_room : after.room ≡ before.room
 

@@ -5,6 +5,7 @@ ghost use Rattle.dactl_model.specs.Ending.{needed_by};
 ghost use Rattle.dactl_model.specs.Graphs.{HasNode};
 ghost use Rattle.dactl_model.specs.Matching.{Matches};
 ghost use Rattle.dactl_model.specs.Programs.{IsValid};
+ghost use Rattle.dactl_store.specs.Redirecting.{IsLatest};
 ghost use Rattle.dactl_firing.specs.Fired.{HasFired, IsFull};
 ghost use Rattle.dactl_firing.specs.Body.{IsSmallBody};
 
@@ -44,10 +45,10 @@ fn needed_by(body: &Body) -> Room
 
 /// The rule fires at the node, where `bindings` is its match: its new nodes are added at the end, all arcs
 /// are redirected, the node gives up its activity, and the nodes to be woken are. The new nodes, and those
-/// whose targets are others then, get the entry's number as their version. `woken` gets the nodes that the
-/// step makes active, in ascending order.
+/// whose targets are others then, get the entry's number as their version; it is greater than that of each
+/// firing before. `woken` gets the nodes that the step makes active, in ascending order.
 ///
-/// It takes time for the new nodes and arcs, for the arcs into the redirected nodes, and for the woken ones.
+/// It takes time for the new nodes and arcs, for the redirections, and to sort the woken ones.
 ///
 /// # Errors
 /// Full where the rule makes more nodes or more arcs than are left. The store is as it was then, and `woken`
@@ -64,6 +65,7 @@ pub fn fire(
     requires program { IsValid program.now }
     requires node { HasNode store.old.graph node }
     requires matching { Matches program.now store.old.graph node rule bindings.now }
+    requires latest { IsLatest entry store.old }
     requires room { store.old.room.nodes ≤ woken.old.room }
     ensures ok { OnOk result (HasFired program.now node rule entry store.old store.new woken.new.list) }
     ensures err { IfErr result (IsFull program.now rule store.old store.new woken.new.list) }

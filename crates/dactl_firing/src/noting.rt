@@ -20,6 +20,7 @@ pub fn note(store: &mut Store, node: NodeId, woken: &mut Woken)
     ensures graph { store.new.graph ≡ noted store.old.graph node }
     ensures versions { store.new.versions ≡ store.old.versions }
     ensures room { store.new.room ≡ store.old.room }
+    ensures newest { store.new.newest ≡ store.old.newest }
     ensures woken { woken.new.list ≡ acts_of_step store.old.graph (Note node) store.new.graph }
     ensures list_room { woken.new.room ≡ woken.old.room }
 {

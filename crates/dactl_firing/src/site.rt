@@ -6,7 +6,7 @@ ghost use Rattle.dactl_model.specs.Ending.{needed_by};
 ghost use Rattle.dactl_model.specs.Firing.{left_node, rewritten, fired};
 ghost use Rattle.dactl_model.specs.Matching.{bound_node, FitsWord, delta_label};
 ghost use Rattle.dactl_store.specs.Held.{IsValid, left_in};
-ghost use Rattle.dactl_store.specs.Redirecting.{AreNodes, sent, redirected, IsVersioned};
+ghost use Rattle.dactl_store.specs.Redirecting.{AreNodes, sent, redirected, IsVersioned, IsLatest};
 ghost use Rattle.dactl_store.specs.Start.{Fits};
 ghost use Rattle.dactl_firing.specs.Site.{IsNamedLeft, IsNamedMove, pair_of, pairs_of, IsSiteIn, IsSettled, IsWrittenFor, IsMade};
 ghost use Rattle.dactl_firing.specs.Body.{CanMake};
@@ -59,9 +59,11 @@ impl Site<'_> {
         requires few { length moves.now ≤ 65 }
         requires named { All (IsNamedMove first self.now.bindings.now) moves.now }
         requires nodes { AreNodes store.old.room.nodes (pairs_of first self.now.node self.now.bindings.now moves.now) }
+        requires latest { IsLatest self.now.entry store.old }
         ensures graph { store.new.graph ≡ redirected (sent (pairs_of first self.now.node self.now.bindings.now moves.now)) store.old.graph }
         ensures versions { IsVersioned self.now.entry store.old store.new }
         ensures room { store.new.room ≡ store.old.room }
+        ensures newest { store.new.newest ≡ self.now.entry }
     {
         let pairs = self.pairs(first, moves);
         store.redirect(&pairs[..moves.len()], self.entry);
@@ -92,6 +94,7 @@ impl Site<'_> {
         requires valid { IsValid store.old }
         requires site { IsSiteIn self.now store.old.graph }
         requires body { IsWrittenFor (length self.now.bindings.now) fresh.now moves.now wakes.now }
+        requires latest { IsLatest self.now.entry store.old }
         requires fits { Fits (needed_by (Written fresh.now moves.now wakes.now)) (left_in store.old) }
         requires room { store.old.room.nodes ≤ woken.old.room }
         ensures { IsMade self.now.node self.now.entry (rewritten store.old.graph self.now.node self.now.bindings.now fresh.now moves.now wakes.now) store.old woken.old store.new woken.new }
@@ -122,6 +125,7 @@ impl Site<'_> {
         requires site { IsSiteIn self.now store.old.graph }
         requires operands { length self.now.bindings.now ≡ 2 }
         requires result { FitsWord (delta_label op store.old.graph self.now.bindings.now) }
+        requires latest { IsLatest self.now.entry store.old }
         requires fits { Fits (needed_by (Delta op)) (left_in store.old) }
         requires room { store.old.room.nodes ≤ woken.old.room }
         ensures { IsMade self.now.node self.now.entry (fired store.old.graph self.now.node self.now.bindings.now (Delta op)) store.old woken.old store.new woken.new }
@@ -138,6 +142,7 @@ impl Site<'_> {
         requires valid { IsValid store.old }
         requires site { IsSiteIn self.now store.old.graph }
         requires body { CanMake store.old.graph self.now.bindings.now body.now }
+        requires latest { IsLatest self.now.entry store.old }
         requires fits { Fits (needed_by body.now) (left_in store.old) }
         requires room { store.old.room.nodes ≤ woken.old.room }
         ensures { IsMade self.now.node self.now.entry (fired store.old.graph self.now.node self.now.bindings.now body.now) store.old woken.old store.new woken.new }

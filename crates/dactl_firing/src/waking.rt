@@ -39,6 +39,7 @@ pub fn wake_all(store: &mut Store, bindings: &[NodeId], wakes: &[u8], woken: &mu
     ensures graph { store.new.graph ≡ with_nodes store.old.graph (woken_nodes bindings.now wakes.now 0 store.old.graph.nodes) }
     ensures versions { store.new.versions ≡ store.old.versions }
     ensures room { store.new.room ≡ store.old.room }
+    ensures newest { store.new.newest ≡ store.old.newest }
     ensures list { IsWokenList store.old.graph.nodes store.new.graph.nodes woken.new.list }
     ensures list_room { woken.new.room ≡ woken.old.room }
 {

@@ -13,7 +13,7 @@ use Rattle.dactl_arcs.specs.Pool.{IsWalk, has, target_of, arc_record}
 use Rattle.dactl_arcs.specs.Moves.{record_at}
 use Rattle.dactl_model.proofs.Counting.{count_by-cons}
 use Rattle.dactl_store.specs.declared.table.Span.{Span}
-use Rattle.dactl_store.specs.Layout.{own_arcs, AreLaid}
+use Rattle.dactl_store.specs.Layout.{own_part, AreLaid}
 use Rattle.dactl_store.proofs.Laying.{no_span}
 
 pub count_same : {X : Type 0} (p q : X → Bool) → ((x : X) → p x ≡ q x) → (xs : List X) → count_by p xs ≡ count_by q xs
@@ -116,10 +116,10 @@ count_later q m k at (span ∷ spans) arcs laid earlier =
 
 -- among all arcs: how many of the node's own pass
 pub count_own : (q : ArcRecord → Bool) (m j k at : ℕ) (spans : List Span) (arcs all : List ArcRecord) → AreLaid k at spans arcs → drop at all ≡ arcs → m ≡ k + j → j < length spans
-    → count_by (λ a. q a && eqb a.owner m) arcs ≡ count_by q (own_arcs all (get_or spans j no_span))
+    → count_by (λ a. q a && eqb a.owner m) arcs ≡ count_by q (own_part all (get_or spans j no_span))
 count_own q m j k at [] arcs all laid rest is below = absurd (omega arith)
 count_own q m zero k at (span ∷ spans) arcs all laid rest is below =
-    let own : own_arcs all span ≡ take span.count arcs = ap (take span.count) (ap (λ n. drop n all) laid.0 ∙ rest) in
+    let own : own_part all span ≡ take span.count arcs = ap (take span.count) (ap (λ n. drop n all) laid.0 ∙ rest) in
     let mine : count_by (λ a. q a && eqb a.owner m) (take span.count arcs) ≡ count_by q (take span.count arcs) = its_own q m (take span.count arcs) (subst (λ n. AllByRecursion (λ a. a.owner ≡ n) (take span.count arcs)) (omega arith) (recursion_from_All _ _ laid.3)) in
     let later = count_later q m (k + 1) (at + span.count) spans (drop span.count arcs) laid.4 (omega arith) in
     split_count (λ a. q a && eqb a.owner m) span.count arcs ∙ omega (arith, mine, later, ap (count_by q) own)
@@ -128,11 +128,3 @@ count_own q m (suc j) k at (span ∷ spans) arcs all laid rest is below =
     let first = others q k m (take span.count arcs) (λ e. omega arith) (recursion_from_All _ _ laid.3) in
     split_count (λ a. q a && eqb a.owner m) span.count arcs
     ∙ omega (arith, first, count_own q m j (k + 1) (at + span.count) spans (drop span.count arcs) all laid.4 left (omega arith) (omega arith))
-
--- one passes where more than none do
-pub any_count : {X : Type 0} (p : X → Bool) (xs : List X) → list_any p xs ≡ ltb 0 (count_by p xs)
-any_count p [] = refl
-any_count p (x ∷ xs) = rw (count_by-cons p) (elim (cases_Bool (p x)) [
-  | inl passes ↦ rw passes (sym (lt-ltb 0 (1 + count_by p xs) (omega arith)))
-  | inr fails ↦ rw fails (any_count p xs ∙ ap (ltb 0) (omega arith))
-])

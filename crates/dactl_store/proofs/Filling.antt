@@ -36,6 +36,7 @@ pub record IsFilled (start now : Held) (h : List NodeId) (fresh : List FreshNode
   pub root : now.graph.root ≡ start.graph.root
   pub versions : now.versions ≡ start.versions ++ map (λ _. version) (take i fresh)
   pub room : now.room ≡ start.room
+  pub newest : now.newest ≡ start.newest
   pub arcs : arcs_of now.graph + fresh_arcs (drop i fresh) ≡ arcs_of start.graph + fresh_arcs fresh
 
 get_last : {X : Type 0} (xs : List X) (x : X) (n : ℕ) → n ≡ length xs → slice_get (xs ++ x ∷ []) n ≡ Some x
@@ -77,8 +78,8 @@ module _ (start now : Held) (h : List NodeId) (fresh : List FreshNode) (version 
         }
 
     pub filled_more : (new : Held) (first : ℕ) → first ≡ length start.graph.nodes → new ≡ grown added owner (map (fresh_arc first h (λ x. x)) item.arcs) → added.graph.root ≡ now.graph.root → added.versions ≡ now.versions ++ version ∷ []
-        → bare.label ≡ item.label → bare.mark ≡ item.mark → IsFilled start new h fresh version (i + 1)
-    filled_more new first is_first step root versions label mark =
+        → added.newest ≡ now.newest → bare.label ≡ item.label → bare.mark ≡ item.mark → IsFilled start new h fresh version (i + 1)
+    filled_more new first is_first step root versions newest label mark =
         let F = fresh_node (length start.graph.nodes) h (λ x. x) in
         let made : record bare { arcs = bare.arcs ++ map (fresh_arc first h (λ x. x)) item.arcs } ≡ fresh_node (length start.graph.nodes) h (λ x. x) item =
         let arcs : bare.arcs ++ map (fresh_arc first h (λ x. x)) item.arcs ≡ map (fresh_arc (length start.graph.nodes) h (λ x. x)) item.arcs = rw none (ap (λ m. map (fresh_arc m h (λ x. x)) item.arcs) is_first) in cc in
@@ -94,6 +95,7 @@ module _ (start now : Held) (h : List NodeId) (fresh : List FreshNode) (version 
               ∙ append_assoc start.versions (map (λ _. version) (take i fresh)) (version ∷ [])
               ∙ ap (λ vs. start.versions ++ vs) (sym (ap (map (λ _. version)) one_more ∙ map-append (λ _. version) (take i fresh) (item ∷ [])));
           room = ap (λ s. s.room) step ∙ room ∙ filled.room;
+          newest = ap (λ s. s.newest) step ∙ newest ∙ filled.newest;
           arcs = omega (arith, ap (sum_by (λ x. length x.arcs)) at_end, arcs_of-push now.graph.nodes (F item), length-map item.arcs (fresh_arc (length start.graph.nodes) h (λ x. x)), filled.arcs, arcs_left fresh i item below is);
         }
 

@@ -7,7 +7,7 @@ use Rattle.std.proofs.lemmas.List.Elements.{All-push, All-from_recursion}
 use Rattle.std.proofs.lemmas.List.Sums.{sum_by-cons}
 use Rattle.dactl_arcs.specs.declared.lists.ArcRecord.{ArcRecord}
 use Rattle.dactl_store.specs.declared.table.Span.{Span}
-use Rattle.dactl_store.specs.Layout.{own_arcs, AreLaid}
+use Rattle.dactl_store.specs.Layout.{own_part, AreLaid}
 
 abbrev pub no_span : Span
 no_span = record { first = 0; count = 0 }
@@ -36,13 +36,13 @@ last_ends k at (span ∷ next ∷ spans) arcs laid (suc i) last =
     omega (arith, last_ends (k + 1) (at + span.count) (next ∷ spans) (drop span.count arcs) laid.4 i (omega arith), length-drop span.count arcs, laid.2)
 
 -- together the nodes have all arcs
-pub arcs_together : (k at : ℕ) (spans : List Span) (arcs all : List ArcRecord) → AreLaid k at spans arcs → drop at all ≡ arcs → sum_by (λ span. length (own_arcs all span)) spans ≡ length arcs
+pub arcs_together : (k at : ℕ) (spans : List Span) (arcs all : List ArcRecord) → AreLaid k at spans arcs → drop at all ≡ arcs → sum_by (λ span. length (own_part all span)) spans ≡ length arcs
 arcs_together k at [] arcs all laid rest = sym (ap length laid)
 arcs_together k at (span ∷ spans) arcs all laid rest =
-    let own : own_arcs all span ≡ take span.count arcs = ap (take span.count) (ap (λ n. drop n all) laid.0 ∙ rest) in
+    let own : own_part all span ≡ take span.count arcs = ap (take span.count) (ap (λ n. drop n all) laid.0 ∙ rest) in
     let left : drop (at + span.count) all ≡ drop span.count arcs = sym (drop-drop span.count at all) ∙ ap (drop span.count) rest in
     let others = arcs_together (k + 1) (at + span.count) spans (drop span.count arcs) all laid.4 left in
-    sum_by-cons (λ s. length (own_arcs all s)) span spans ∙ omega (arith, ap length own, length-take-le span.count arcs laid.2, others, length-drop span.count arcs, laid.2)
+    sum_by-cons (λ s. length (own_part all s)) span spans ∙ omega (arith, ap length own, length-take-le span.count arcs laid.2, others, length-drop span.count arcs, laid.2)
 
 -- a node without arcs comes at the end
 pub AreLaid-push : (k at : ℕ) (spans : List Span) (arcs : List ArcRecord) (added : Span) → AreLaid k at spans arcs → added.first ≡ at + length arcs → added.count ≡ 0 → AreLaid k at (spans ++ added ∷ []) arcs
@@ -73,28 +73,28 @@ AreLaid-more k at (span ∷ next ∷ spans) arcs (suc i) longer added laid last 
       subst (AreLaid (k + 1) (at + span.count) (set (next ∷ spans) i longer)) (sym (drop-append-le span.count arcs (added ∷ []) laid.2)) behind,
     )
 
--- arcs that are there stay where others are added
-pub own_arcs-push : (arcs : List ArcRecord) (span : Span) (added : ArcRecord) → span.first + span.count ≤ length arcs → own_arcs (arcs ++ added ∷ []) span ≡ own_arcs arcs span
-own_arcs-push arcs span added within =
-    ap (take span.count) (drop-append-le span.first arcs (added ∷ []) (omega arith)) ∙ take-append-le span.count (drop span.first arcs) (added ∷ []) (omega (arith, length-drop span.first arcs))
+-- a node's own part stays where an item is added at the end
+pub own_part-push : {X : Type 0} (xs : List X) (span : Span) (added : X) → span.first + span.count ≤ length xs → own_part (xs ++ added ∷ []) span ≡ own_part xs span
+own_part-push xs span added within =
+    ap (take span.count) (drop-append-le span.first xs (added ∷ []) (omega arith)) ∙ take-append-le span.count (drop span.first xs) (added ∷ []) (omega (arith, length-drop span.first xs))
 
--- the last node has the added arc at its end
-pub own_arcs-more : (arcs : List ArcRecord) (span longer : Span) (added : ArcRecord) → span.first + span.count ≡ length arcs → longer.first ≡ span.first → longer.count ≡ span.count + 1
-    → own_arcs (arcs ++ added ∷ []) longer ≡ own_arcs arcs span ++ added ∷ []
-own_arcs-more arcs span longer added ends first more =
-    let own = drop span.first arcs in
-    let size : length own ≡ span.count = omega (arith, length-drop span.first arcs) in
-    ap (λ n. take longer.count (drop n (arcs ++ added ∷ []))) first
-    ∙ ap (take longer.count) (drop-append-le span.first arcs (added ∷ []) (omega arith))
+-- the last node has the added item at the end of its part
+pub own_part-more : {X : Type 0} (xs : List X) (span longer : Span) (added : X) → span.first + span.count ≡ length xs → longer.first ≡ span.first → longer.count ≡ span.count + 1
+    → own_part (xs ++ added ∷ []) longer ≡ own_part xs span ++ added ∷ []
+own_part-more xs span longer added ends first more =
+    let own = drop span.first xs in
+    let size : length own ≡ span.count = omega (arith, length-drop span.first xs) in
+    ap (λ n. take longer.count (drop n (xs ++ added ∷ []))) first
+    ∙ ap (take longer.count) (drop-append-le span.first xs (added ∷ []) (omega arith))
     ∙ take_all longer.count (own ++ added ∷ []) (omega (arith, length_push own added))
-    ∙ ap (λ xs. xs ++ added ∷ []) (sym (take_all span.count own (omega arith)))
+    ∙ ap (λ ys. ys ++ added ∷ []) (sym (take_all span.count own (omega arith)))
 
-pub length-own_arcs : (arcs : List ArcRecord) (span : Span) → span.first + span.count ≤ length arcs → length (own_arcs arcs span) ≡ span.count
-length-own_arcs arcs span within = length-take-le span.count (drop span.first arcs) (omega (arith, length-drop span.first arcs))
+pub length-own_part : {X : Type 0} (xs : List X) (span : Span) → span.first + span.count ≤ length xs → length (own_part xs span) ≡ span.count
+length-own_part xs span within = length-take-le span.count (drop span.first xs) (omega (arith, length-drop span.first xs))
 
 -- an arc of the node by its place
-pub own_arc_at : (arcs : List ArcRecord) (span : Span) (place : ℕ) (a : ArcRecord) → place < span.count → span.first + span.count ≤ length arcs → slice_get arcs (span.first + place) ≡ Some a
-    → slice_get (own_arcs arcs span) place ≡ Some a
-own_arc_at arcs span place a below within at =
-    slice_get-get_or (own_arcs arcs span) place a (omega (arith, length-own_arcs arcs span within))
+pub own_part_at : (arcs : List ArcRecord) (span : Span) (place : ℕ) (a : ArcRecord) → place < span.count → span.first + span.count ≤ length arcs → slice_get arcs (span.first + place) ≡ Some a
+    → slice_get (own_part arcs span) place ≡ Some a
+own_part_at arcs span place a below within at =
+    slice_get-get_or (own_part arcs span) place a (omega (arith, length-own_part arcs span within))
     ∙ ap Some (get_or-take span.count (drop span.first arcs) place a below ∙ get_or-drop span.first arcs place a ∙ get_or_from_slice_get arcs (span.first + place) a a at)

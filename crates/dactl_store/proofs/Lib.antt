@@ -7,7 +7,8 @@ pub mod Targets
 pub mod Growing
 pub mod Filling
 pub mod Counting
-pub mod Giving
+pub mod Versions
+pub mod Latest
 pub mod Moved
 pub mod Notified
 pub mod Acting

@@ -1,13 +1,14 @@
 -- What a contract sees once all arcs are changed alike.
-use Rattle.std.proofs.Common.{◌≡◌, ◌≢◌, ℕ, zero, suc, ◌+◌, ◌<◌, Bool, true, false, not, ◌&&◌, cond, eqb, ltb, List, [], ◌∷◌, length, get_or, map, take, drop, count_by, All, Option, Some, None, refl, sym, ap, ◌∙◌, arith, subst, inl, inr}
+use Rattle.std.proofs.Common.{◌≡◌, ◌≢◌, ℕ, zero, suc, ◌+◌, ◌<◌, ◌≤◌, Bool, true, false, not, ◌&&◌, cond, eqb, ltb, List, [], ◌∷◌, length, get_or, map, take, drop, count_by, All, Option, Some, None, refl, sym, ap, ◌∙◌, arith, subst, inl, inr}
 use Rattle.std.specs.List.{list_any, slice_get}
 use Rattle.std.proofs.lemmas.Bool.{eqb-true, eq-eqb, cases_Bool, both_ways, or_parts, or_from}
 use Rattle.std.proofs.lemmas.List.{length-map, take-map, take-append-drop}
-use Rattle.std.proofs.lemmas.List.Elements.{All-map, All-append, All-from_recursion}
+use Rattle.std.proofs.lemmas.List.Elements.{All-map, All-append, All-head, All-tail, All-from_recursion}
 use Rattle.dactl_arcs.specs.declared.lists.ArcRecord.{ArcRecord}
 use Rattle.dactl_arcs.specs.Pool.{Pool, targets}
 use Rattle.dactl_arcs.specs.Moves.{moved_to, retargeted}
 use Rattle.dactl_arcs.specs.Kept.{IsKept, AreBelow}
+use Rattle.dactl_arcs.specs.Stamps.{changed_by}
 use Rattle.dactl_model.specs.declared.graph.NodeId.{NodeId}
 use Rattle.dactl_model.specs.declared.graph.Room.{Room}
 use Rattle.dactl_model.specs.Firing.{redirected_arc}
@@ -15,18 +16,20 @@ use Rattle.dactl_model.specs.Versions.{Content, content}
 use Rattle.dactl_store.specs.declared.table.Span.{Span}
 use Rattle.dactl_store.specs.declared.table.NodeRecord.{NodeRecord}
 use Rattle.dactl_store.specs.Table.{Table, no_node, record_of}
-use Rattle.dactl_store.specs.Layout.{arc_of, own_arcs, node_of, graph_of, held_of, AreLaid, spans_of, IsStore}
-use Rattle.dactl_store.specs.Redirecting.{number_pairs, is_moved, IsGiven, HasOwners, sent, redirected_node, redirected, IsVersioned, AreNodes}
-use Rattle.dactl_store.proofs.Seen.{map-map, span_of, in_spans, content_seen, version_seen}
-use Rattle.dactl_store.proofs.Counting.{count_own, any_count}
+use Rattle.dactl_store.specs.Layout.{arc_of, own_part, node_of, graph_of, version_of, held_of, AreLaid, spans_of, IsStore}
+use Rattle.dactl_store.specs.Redirecting.{number_pairs, sent, redirected_node, redirected, IsVersioned, IsLatest, AreNodes}
+use Rattle.dactl_store.specs.Notifying.{HasOwners}
+use Rattle.dactl_store.proofs.Lists.{map_same}
+use Rattle.dactl_store.proofs.Seen.{map-map, content_seen, version_seen}
+use Rattle.dactl_store.proofs.Versions.{any_moved, version_moved, length-changed_by}
 
 pub drop-map : {X Y : Type 0} (f : X → Y) (n : ℕ) (xs : List X) → drop n (map f xs) ≡ map f (drop n xs)
 drop-map f zero xs = refl
 drop-map f (suc n) [] = refl
 drop-map f (suc n) (x ∷ xs) = drop-map f n xs
 
-pub own_arcs-map : (g : ArcRecord → ArcRecord) (arcs : List ArcRecord) (span : Span) → own_arcs (map g arcs) span ≡ map g (own_arcs arcs span)
-own_arcs-map g arcs span = ap (take span.count) (drop-map g span.first arcs) ∙ take-map g span.count (drop span.first arcs)
+pub own_part-map : (g : ArcRecord → ArcRecord) (arcs : List ArcRecord) (span : Span) → own_part (map g arcs) span ≡ map g (own_part arcs span)
+own_part-map g arcs span = ap (take span.count) (drop-map g span.first arcs) ∙ take-map g span.count (drop span.first arcs)
 
 -- two lists of which the items at each place are made alike
 pub map_alike : {X Y : Type 0} (f g : X → Y) (d : X) (xs ys : List X) → length xs ≡ length ys → ((i : ℕ) → i < length ys → f (get_or xs i d) ≡ g (get_or ys i d)) → map f xs ≡ map g ys
@@ -63,22 +66,28 @@ module _ (nodes : Table) (arcs : Pool) (root : NodeId) (room : Room) (is : IsSto
 
   module _ (new : Table) (more : Pool) (g : ArcRecord → ArcRecord) (owner : (a : ArcRecord) → (g a).owner ≡ a.owner) (changed : more.arcs ≡ map g arcs.arcs) (long : length new.records ≡ length nodes.records)
       (spans : (m : ℕ) → (record_of new.records m).span ≡ (record_of nodes.records m).span) where
-    pub IsStore-map : targets more ≡ targets arcs → more.room ≡ arcs.room → new.room ≡ nodes.room → IsStore new more room
-    IsStore-map same_targets same_room same_nodes = record {
+    pub IsStore-map : length more.changed ≡ length arcs.changed → targets more ≡ targets arcs → more.room ≡ arcs.room → new.room ≡ nodes.room → IsStore new more room
+    IsStore-map same_changes same_targets same_room same_nodes = record {
       nodes_room = same_nodes ∙ is.nodes_room;
       nodes_few = omega (arith, long, same_nodes, is.nodes_few);
       targets = same_targets ∙ is.targets;
       arcs_room = same_room ∙ is.arcs_room;
       fits = is.fits;
       few = omega (arith, ap length changed, length-map arcs.arcs g, same_room, is.few);
+      changes = omega (arith, ap length changed, length-map arcs.arcs g, same_changes, is.changes);
       laid = subst (λ all. AreLaid 0 0 (spans_of new.records) all) (sym changed)
           (subst (λ ss. AreLaid 0 0 ss (map g arcs.arcs)) (sym (map_alike (λ r. r.span) (λ r. r.span) no_node new.records nodes.records long (λ i below. spans i)))
           (AreLaid-map g owner 0 0 (spans_of nodes.records) arcs.arcs is.laid));
     }
 
     -- a node's own arcs are changed as all are
-    pub own_changed : (m : ℕ) → own_arcs more.arcs (record_of new.records m).span ≡ map g (own_arcs arcs.arcs (record_of nodes.records m).span)
-    own_changed m = ap (λ all. own_arcs all (record_of new.records m).span) changed ∙ own_arcs-map g arcs.arcs (record_of new.records m).span ∙ ap (λ s. map g (own_arcs arcs.arcs s)) (spans m)
+    pub own_changed : (m : ℕ) → own_part more.arcs (record_of new.records m).span ≡ map g (own_part arcs.arcs (record_of nodes.records m).span)
+    own_changed m = ap (λ all. own_part all (record_of new.records m).span) changed ∙ own_part-map g arcs.arcs (record_of new.records m).span ∙ ap (λ s. map g (own_part arcs.arcs s)) (spans m)
+
+All-at : {X Y : Type 0} (g : X → Y) (P : Y → Type 0) (d : X) (xs : List X) (i : ℕ) → i < length xs → All P (map g xs) → P (g (get_or xs i d))
+All-at g P d [] i below all = absurd (omega arith)
+All-at g P d (x ∷ xs) zero below all = All-head P (g x) (map g xs) all
+All-at g P d (x ∷ xs) (suc i) below all = All-at g P d xs i (omega arith) (All-tail P (g x) (map g xs) all)
 
 -- where the pairs send a node, by numbers
 pub sent_number : (moves : List (NodeId × NodeId)) (n : NodeId) → sent moves n ≡ record { number = moved_to (number_pairs moves) n.number }
@@ -94,18 +103,6 @@ arc_sent moves a = ap (λ t. record { target = t; waits = a.waits }) (sym (sent_
 arcs_sent : (moves : List (NodeId × NodeId)) (own : List ArcRecord) → map arc_of (map (retargeted (number_pairs moves)) own) ≡ map (redirected_arc (sent moves)) (map arc_of own)
 arcs_sent moves [] = refl
 arcs_sent moves (a ∷ own) = let first = arc_sent moves a in let rest = arcs_sent moves own in cc
-
-given_label : (b : Bool) (version : ℕ) (r : NodeRecord) → (cond b (record r { version = version }) r).label ≡ r.label
-given_label true version r = refl
-given_label false version r = refl
-
-given_mark : (b : Bool) (version : ℕ) (r : NodeRecord) → (cond b (record r { version = version }) r).mark ≡ r.mark
-given_mark true version r = refl
-given_mark false version r = refl
-
-given_span : (b : Bool) (version : ℕ) (r : NodeRecord) → (cond b (record r { version = version }) r).span ≡ r.span
-given_span true version r = refl
-given_span false version r = refl
 
 double_not : (b : Bool) → not b ≡ false → b ≡ true
 double_not true is = refl
@@ -123,7 +120,7 @@ targets_in None = []
 targets_in (Some c) = c.targets
 
 -- the targets stay where no arc is moved
-unmoved : (pairs : List (ℕ × ℕ)) (own : List ArcRecord) → list_any (λ a. not (eqb (moved_to pairs a.target) a.target)) own ≡ false
+unmoved : (pairs : List (ℕ × ℕ)) (own : List ArcRecord) → any_moved pairs own ≡ false
     → map (λ a. (arc_of a).target) (map (retargeted pairs) own) ≡ map (λ a. (arc_of a).target) own
 unmoved pairs [] none = refl
 unmoved pairs (a ∷ own) none =
@@ -135,104 +132,85 @@ unmoved pairs (a ∷ own) none =
 
 -- and only there
 still : (pairs : List (ℕ × ℕ)) (own : List ArcRecord) → map (λ a. (arc_of a).target) (map (retargeted pairs) own) ≡ map (λ a. (arc_of a).target) own
-    → list_any (λ a. not (eqb (moved_to pairs a.target) a.target)) own ≡ false
+    → any_moved pairs own ≡ false
 still pairs [] same = refl
 still pairs (a ∷ own) same =
     let first : moved_to pairs a.target ≡ a.target = ap first_number same in
     let rest : map (λ x. (arc_of x).target) (map (retargeted pairs) own) ≡ map (λ x. (arc_of x).target) own = ap (drop 1) same in
     or_from (not (eqb (moved_to pairs a.target) a.target)) (list_any (λ x. not (eqb (moved_to pairs x.target) x.target)) own) (ap not (eq-eqb (moved_to pairs a.target) a.target first)) (still pairs own rest)
 
-module _ (nodes : Table) (arcs : Pool) (root : NodeId) (room : Room) (is : IsStore nodes arcs room) (new : Table) (more : Pool) (moves : List (NodeId × NodeId)) (version : ℕ)
-    (kept : IsKept arcs more) (changed : more.arcs ≡ map (retargeted (number_pairs moves)) arcs.arcs) (given : IsGiven (is_moved arcs.arcs (number_pairs moves)) version nodes.records new.records) where
-  pairs : List (ℕ × ℕ)
-  pairs = number_pairs moves
+module _ (nodes : Table) (arcs : Pool) (root : NodeId) (room : Room) (is : IsStore nodes arcs room) (more : Pool) (moves : List (NodeId × NodeId)) (version : ℕ)
+    (kept : IsKept arcs more) (moved : more.arcs ≡ map (retargeted (number_pairs moves)) arcs.arcs) (stamped : more.changed ≡ changed_by (number_pairs moves) version arcs.arcs arcs.changed) where
+  own_moved : (m : ℕ) → own_part more.arcs (record_of nodes.records m).span ≡ map (retargeted (number_pairs moves)) (own_part arcs.arcs (record_of nodes.records m).span)
+  own_moved = own_changed nodes arcs root room is nodes more (retargeted (number_pairs moves)) (λ a. refl) moved refl (λ m. refl)
 
-  pub spans_stay : (m : ℕ) → (record_of new.records m).span ≡ (record_of nodes.records m).span
-  spans_stay m = ap (λ r. r.span) (given.each m) ∙ given_span (is_moved arcs.arcs (number_pairs moves) m) version (record_of nodes.records m)
+  pub IsStore-moved : IsStore nodes more room
+  IsStore-moved =
+      let long : length more.changed ≡ length arcs.changed = ap length stamped ∙ length-changed_by (number_pairs moves) version arcs.arcs arcs.changed is.changes ∙ sym is.changes in
+      IsStore-map nodes arcs root room is nodes more (retargeted (number_pairs moves)) (λ a. refl) moved refl (λ m. refl) long kept.targets kept.room refl
 
-  own_moved : (m : ℕ) → own_arcs more.arcs (record_of new.records m).span ≡ map (retargeted (number_pairs moves)) (own_arcs arcs.arcs (record_of nodes.records m).span)
-  own_moved = own_changed nodes arcs root room is new more (retargeted (number_pairs moves)) (λ a. refl) changed given.long spans_stay
-
-  pub IsStore-moved : new.room ≡ nodes.room → IsStore new more room
-  IsStore-moved same = IsStore-map nodes arcs root room is new more (retargeted (number_pairs moves)) (λ a. refl) changed given.long spans_stay kept.targets kept.room same
-
-  node_sent : (m : ℕ) → node_of more.arcs (record_of new.records m) ≡ redirected_node (sent moves) (node_of arcs.arcs (record_of nodes.records m))
+  node_sent : (m : ℕ) → node_of more.arcs (record_of nodes.records m) ≡ redirected_node (sent moves) (node_of arcs.arcs (record_of nodes.records m))
   node_sent m =
-      let label : (record_of new.records m).label ≡ (record_of nodes.records m).label = ap (λ r. r.label) (given.each m) ∙ given_label (is_moved arcs.arcs (number_pairs moves) m) version (record_of nodes.records m) in
-      let mark : (record_of new.records m).mark ≡ (record_of nodes.records m).mark = ap (λ r. r.mark) (given.each m) ∙ given_mark (is_moved arcs.arcs (number_pairs moves) m) version (record_of nodes.records m) in
-      let own : map arc_of (own_arcs more.arcs (record_of new.records m).span) ≡ map (redirected_arc (sent moves)) (map arc_of (own_arcs arcs.arcs (record_of nodes.records m).span)) =
-      ap (map arc_of) (own_moved m) ∙ arcs_sent moves (own_arcs arcs.arcs (record_of nodes.records m).span) in
+      let own : map arc_of (own_part more.arcs (record_of nodes.records m).span) ≡ map (redirected_arc (sent moves)) (map arc_of (own_part arcs.arcs (record_of nodes.records m).span)) =
+      ap (map arc_of) (own_moved m) ∙ arcs_sent moves (own_part arcs.arcs (record_of nodes.records m).span) in
       cc
 
-  pub graph_moved : (number : ℕ) → number ≡ moved_to (number_pairs moves) root.number → graph_of new.records more.arcs (record { number = number }) ≡ redirected (sent moves) (graph_of nodes.records arcs.arcs root)
+  pub graph_moved : (number : ℕ) → number ≡ moved_to (number_pairs moves) root.number → graph_of nodes.records more.arcs (record { number = number }) ≡ redirected (sent moves) (graph_of nodes.records arcs.arcs root)
   graph_moved number is_root =
-      let all : map (node_of more.arcs) new.records ≡ map (redirected_node (sent moves)) (map (node_of arcs.arcs) nodes.records) =
-      map_alike (node_of more.arcs) (λ r. redirected_node (sent moves) (node_of arcs.arcs r)) no_node new.records nodes.records given.long (λ i below. node_sent i)
+      let all : map (node_of more.arcs) nodes.records ≡ map (redirected_node (sent moves)) (map (node_of arcs.arcs) nodes.records) =
+      map_same (node_of more.arcs) (λ r. redirected_node (sent moves) (node_of arcs.arcs r)) no_node nodes.records (λ i below. node_sent i)
       ∙ sym (map-map (node_of arcs.arcs) (redirected_node (sent moves)) nodes.records) in
       let at_root : numbered number ≡ sent moves root = ap numbered is_root ∙ sym (sent_number moves root) in
       cc
 
-  -- the pairs move one of the node's own arcs
-  moved_own : (m : ℕ) → m < length nodes.records → is_moved arcs.arcs (number_pairs moves) m ≡ list_any (λ a. not (eqb (moved_to (number_pairs moves) a.target) a.target)) (own_arcs arcs.arcs (record_of nodes.records m).span)
-  moved_own m below =
-      let q : ArcRecord → Bool = λ a. not (eqb (moved_to (number_pairs moves) a.target) a.target) in
-      any_count (λ a. q a && eqb a.owner m) arcs.arcs
-      ∙ ap (ltb 0) (count_own q m m 0 0 (spans_of nodes.records) arcs.arcs arcs.arcs is.laid refl (omega arith) (in_spans nodes arcs root room is m below))
-      ∙ ap (λ s. ltb 0 (count_by q (own_arcs arcs.arcs s))) (sym (span_of nodes.records m))
-      ∙ sym (any_count q (own_arcs arcs.arcs (record_of nodes.records m).span))
-
-  version_given : (m : ℕ) → is_moved arcs.arcs (number_pairs moves) m ≡ true → (record_of new.records m).version ≡ version
-  version_given m moved = ap (λ r. r.version) (given.each m ∙ ap (λ b. cond b (record (record_of nodes.records m) { version = version }) (record_of nodes.records m)) moved)
-
-  version_kept : (m : ℕ) → is_moved arcs.arcs (number_pairs moves) m ≡ false → (record_of new.records m).version ≡ (record_of nodes.records m).version
-  version_kept m still = ap (λ r. r.version) (given.each m ∙ ap (λ b. cond b (record (record_of nodes.records m) { version = version }) (record_of nodes.records m)) still)
-
-  module _ (root' : NodeId) (same_nodes : new.room ≡ nodes.room) where
-    is_new : IsStore new more room
-    is_new = IsStore-moved same_nodes
-
+  module _ (root' : NodeId) (latest : IsLatest version (held_of nodes arcs root room)) where
     module _ (n : NodeId) (below : n.number < length nodes.records) where
-      own : List ArcRecord
-      own = own_arcs arcs.arcs (record_of nodes.records n.number).span
+      before : content (graph_of nodes.records arcs.arcs root) n ≡ Some (record { label = (record_of nodes.records n.number).label; targets = map (λ a. (arc_of a).target) (own_part arcs.arcs (record_of nodes.records n.number).span) })
+      before = content_seen nodes arcs root room is n (map (λ a. (arc_of a).target) (own_part arcs.arcs (record_of nodes.records n.number).span)) below refl
 
-      before : content (graph_of nodes.records arcs.arcs root) n ≡ Some (record { label = (record_of nodes.records n.number).label; targets = map (λ a. (arc_of a).target) (own_arcs arcs.arcs (record_of nodes.records n.number).span) })
-      before = content_seen nodes arcs root room is n (map (λ a. (arc_of a).target) (own_arcs arcs.arcs (record_of nodes.records n.number).span)) below refl
-
-      after : content (graph_of new.records more.arcs root') n
-          ≡ Some (record { label = (record_of nodes.records n.number).label; targets = map (λ a. (arc_of a).target) (map (retargeted (number_pairs moves)) (own_arcs arcs.arcs (record_of nodes.records n.number).span)) })
+      after : content (graph_of nodes.records more.arcs root') n
+          ≡ Some (record { label = (record_of nodes.records n.number).label; targets = map (λ a. (arc_of a).target) (map (retargeted (number_pairs moves)) (own_part arcs.arcs (record_of nodes.records n.number).span)) })
       after =
-          let label : (record_of new.records n.number).label ≡ (record_of nodes.records n.number).label = ap (λ r. r.label) (given.each n.number) ∙ given_label (is_moved arcs.arcs (number_pairs moves) n.number) version (record_of nodes.records n.number) in
-          content_seen new more root' room is_new n (map (λ a. (arc_of a).target) (own_arcs more.arcs (record_of new.records n.number).span)) (omega (arith, given.long)) refl
-          ∙ ap (λ l. Some (record { label = l; targets = map (λ a. (arc_of a).target) (own_arcs more.arcs (record_of new.records n.number).span) })) label
+          content_seen nodes more root' room IsStore-moved n (map (λ a. (arc_of a).target) (own_part more.arcs (record_of nodes.records n.number).span)) below refl
           ∙ ap (λ xs. Some (record { label = (record_of nodes.records n.number).label; targets = map (λ a. (arc_of a).target) xs })) (own_moved n.number)
 
-      stays_unmoved : content (graph_of new.records more.arcs root') n ≡ content (graph_of nodes.records arcs.arcs root) n → is_moved arcs.arcs (number_pairs moves) n.number ≡ false
-      stays_unmoved same =
-          let targets : map (λ a. (arc_of a).target) (map (retargeted (number_pairs moves)) (own_arcs arcs.arcs (record_of nodes.records n.number).span)) ≡ map (λ a. (arc_of a).target) (own_arcs arcs.arcs (record_of nodes.records n.number).span) =
-          ap targets_in (sym after ∙ same ∙ before) in
-          moved_own n.number below ∙ still (number_pairs moves) (own_arcs arcs.arcs (record_of nodes.records n.number).span) targets
+      -- the version is the given one where the pairs move one of the node's arcs
+      version_sent : version_of more.changed (record_of nodes.records n.number)
+          ≡ cond (any_moved (number_pairs moves) (own_part arcs.arcs (record_of nodes.records n.number).span)) version (version_of arcs.changed (record_of nodes.records n.number))
+      version_sent =
+          let r = record_of nodes.records n.number in
+          let most : version_of arcs.changed (record_of nodes.records n.number) ≤ version = All-at (version_of arcs.changed) (λ v. v ≤ version) no_node nodes.records n.number below latest.most in
+          ap (λ changed. version_of changed r) stamped ∙ version_moved (number_pairs moves) version r.version r.span arcs.arcs arcs.changed is.changes most
 
-      unmoved_stays : is_moved arcs.arcs (number_pairs moves) n.number ≡ false → content (graph_of new.records more.arcs root') n ≡ content (graph_of nodes.records arcs.arcs root) n
+      stays_unmoved : content (graph_of nodes.records more.arcs root') n ≡ content (graph_of nodes.records arcs.arcs root) n → any_moved (number_pairs moves) (own_part arcs.arcs (record_of nodes.records n.number).span) ≡ false
+      stays_unmoved same = still (number_pairs moves) (own_part arcs.arcs (record_of nodes.records n.number).span) (ap targets_in (sym after ∙ same ∙ before))
+
+      unmoved_stays : any_moved (number_pairs moves) (own_part arcs.arcs (record_of nodes.records n.number).span) ≡ false → content (graph_of nodes.records more.arcs root') n ≡ content (graph_of nodes.records arcs.arcs root) n
       unmoved_stays none =
           after
-          ∙ ap (λ ts. Some (record { label = (record_of nodes.records n.number).label; targets = ts })) (unmoved (number_pairs moves) (own_arcs arcs.arcs (record_of nodes.records n.number).span) (sym (moved_own n.number below) ∙ none))
+          ∙ ap (λ ts. Some (record { label = (record_of nodes.records n.number).label; targets = ts })) (unmoved (number_pairs moves) (own_part arcs.arcs (record_of nodes.records n.number).span) none)
           ∙ sym before
 
-      kept_version : content (graph_of new.records more.arcs root') n ≡ content (graph_of nodes.records arcs.arcs root) n → slice_get (map (λ r. r.version) new.records) n.number ≡ slice_get (map (λ r. r.version) nodes.records) n.number
+      kept_version : content (graph_of nodes.records more.arcs root') n ≡ content (graph_of nodes.records arcs.arcs root) n
+          → slice_get (map (version_of more.changed) nodes.records) n.number ≡ slice_get (map (version_of arcs.changed) nodes.records) n.number
       kept_version same =
-          version_seen new more root' room is_new n.number (omega (arith, given.long)) ∙ ap Some (version_kept n.number (stays_unmoved same)) ∙ sym (version_seen nodes arcs root room is n.number below)
+          version_seen nodes more root' room IsStore-moved n.number below
+          ∙ ap Some (version_sent ∙ ap (λ b. cond b version (version_of arcs.changed (record_of nodes.records n.number))) (stays_unmoved same))
+          ∙ sym (version_seen nodes arcs root room is n.number below)
 
-      given_version : content (graph_of new.records more.arcs root') n ≢ content (graph_of nodes.records arcs.arcs root) n → slice_get (map (λ r. r.version) new.records) n.number ≡ Some version
-      given_version differ = elim (cases_Bool (is_moved arcs.arcs (number_pairs moves) n.number)) [
-        | inl moved ↦ version_seen new more root' room is_new n.number (omega (arith, given.long)) ∙ ap Some (version_given n.number moved)
+      given_version : content (graph_of nodes.records more.arcs root') n ≢ content (graph_of nodes.records arcs.arcs root) n → slice_get (map (version_of more.changed) nodes.records) n.number ≡ Some version
+      given_version differ = elim (cases_Bool (any_moved (number_pairs moves) (own_part arcs.arcs (record_of nodes.records n.number).span))) [
+        | inl goes ↦
+            version_seen nodes more root' room IsStore-moved n.number below
+            ∙ ap Some (version_sent ∙ ap (λ b. cond b version (version_of arcs.changed (record_of nodes.records n.number))) goes)
         | inr none ↦ absurd (differ (unmoved_stays none))
       ]
 
-    pub versioned : IsVersioned version (held_of nodes arcs root room) (held_of new more root' room)
+    pub versioned : IsVersioned version (held_of nodes arcs root room) (held_of nodes more root' room)
     versioned = record {
-      long = length-map new.records (λ r. r.version) ∙ sym (length-map new.records (node_of more.arcs));
-      kept = λ n here same. kept_version n (omega (arith, length-map new.records (node_of more.arcs), given.long)) same;
-      given = λ n here differ. given_version n (omega (arith, length-map new.records (node_of more.arcs), given.long)) differ;
+      long = length-map nodes.records (version_of more.changed) ∙ sym (length-map nodes.records (node_of more.arcs));
+      kept = λ n here same. kept_version n (omega (arith, length-map nodes.records (node_of more.arcs))) same;
+      given = λ n here differ. given_version n (omega (arith, length-map nodes.records (node_of more.arcs))) differ;
     }
 
 -- the numbers of nodes below the room

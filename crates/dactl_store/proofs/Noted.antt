@@ -19,7 +19,7 @@ use Rattle.dactl_model.proofs.Counting.{count_by-map}
 use Rattle.dactl_store.specs.declared.table.NodeRecord.{NodeRecord}
 use Rattle.dactl_store.specs.Table.{Table, no_node, record_of, is_active}
 use Rattle.dactl_store.specs.Held.{changed_at, with_mark}
-use Rattle.dactl_store.specs.Layout.{arc_of, own_arcs, node_of, graph_of, spans_of, IsStore}
+use Rattle.dactl_store.specs.Layout.{arc_of, own_part, node_of, graph_of, version_of, spans_of, IsStore}
 use Rattle.dactl_store.specs.Notifying.{waiting, AreNotified, numbers, IsWokenList}
 use Rattle.dactl_store.proofs.Seen.{map-map, span_of, in_spans}
 use Rattle.dactl_store.proofs.Counting.{count_own, count_same}
@@ -117,26 +117,26 @@ module _ (nodes : Table) (arcs : Pool) (root : NodeId) (room : Room) (is : IsSto
   spans_same : (m : ℕ) → (record_of new.records m).span ≡ (record_of nodes.records m).span
   spans_same m = ap (λ r. r.span) (notified.each m)
 
-  pub IsStore-noted : targets more ≡ targets arcs → more.room ≡ arcs.room → new.room ≡ nodes.room → IsStore new more room
-  IsStore-noted same_targets same_room same_nodes =
-      IsStore-map nodes arcs root room is new more (moves.cleared n.number) (cleared_owner n.number) changed notified.long spans_same same_targets same_room same_nodes
+  pub IsStore-noted : more.changed ≡ arcs.changed → targets more ≡ targets arcs → more.room ≡ arcs.room → new.room ≡ nodes.room → IsStore new more room
+  IsStore-noted same_changes same_targets same_room same_nodes =
+      IsStore-map nodes arcs root room is new more (moves.cleared n.number) (cleared_owner n.number) changed notified.long spans_same (ap length same_changes) same_targets same_room same_nodes
 
   -- along how many of its own arcs a node waits
-  waiting_own : (m : ℕ) → m < length nodes.records → waiting arcs.arcs n.number m ≡ count_by (waits_for n) (map arc_of (own_arcs arcs.arcs (record_of nodes.records m).span))
+  waiting_own : (m : ℕ) → m < length nodes.records → waiting arcs.arcs n.number m ≡ count_by (waits_for n) (map arc_of (own_part arcs.arcs (record_of nodes.records m).span))
   waiting_own m below =
       let q : ArcRecord → Bool = λ a. a.waits && eqb a.target n.number in
       count_same (λ a. eqb a.target n.number && (a.waits && eqb a.owner m)) (λ a. q a && eqb a.owner m) (λ a. reordered (eqb a.target n.number) a.waits (eqb a.owner m)) arcs.arcs
       ∙ count_own q m m 0 0 (spans_of nodes.records) arcs.arcs arcs.arcs is.laid refl (omega arith) (in_spans nodes arcs root room is m below)
-      ∙ ap (λ s. count_by q (own_arcs arcs.arcs s)) (sym (span_of nodes.records m))
-      ∙ sym (count_by-map q (waits_for n) arc_of (λ a. refl) (own_arcs arcs.arcs (record_of nodes.records m).span))
+      ∙ ap (λ s. count_by q (own_part arcs.arcs s)) (sym (span_of nodes.records m))
+      ∙ sym (count_by-map q (waits_for n) arc_of (λ a. refl) (own_part arcs.arcs (record_of nodes.records m).span))
 
   node_told : (m : ℕ) → m < length nodes.records → node_of more.arcs (record_of new.records m) ≡ told n (node_of arcs.arcs (record_of nodes.records m))
   node_told m below =
       let label : (record_of new.records m).label ≡ (record_of nodes.records m).label = ap (λ r. r.label) (notified.each m) in
-      let mark : (record_of new.records m).mark ≡ noted_mark (count_by (waits_for n) (map arc_of (own_arcs arcs.arcs (record_of nodes.records m).span))) (record_of nodes.records m).mark =
+      let mark : (record_of new.records m).mark ≡ noted_mark (count_by (waits_for n) (map arc_of (own_part arcs.arcs (record_of nodes.records m).span))) (record_of nodes.records m).mark =
       ap (λ r. r.mark) (notified.each m) ∙ ap (λ c. noted_mark c (record_of nodes.records m).mark) (waiting_own m below) in
-      let own : map arc_of (own_arcs more.arcs (record_of new.records m).span) ≡ map (cleared n) (map arc_of (own_arcs arcs.arcs (record_of nodes.records m).span)) =
-      ap (map arc_of) (own_changed nodes arcs root room is new more (moves.cleared n.number) (cleared_owner n.number) changed notified.long spans_same m) ∙ arcs_cleared n (own_arcs arcs.arcs (record_of nodes.records m).span) in
+      let own : map arc_of (own_part more.arcs (record_of new.records m).span) ≡ map (cleared n) (map arc_of (own_part arcs.arcs (record_of nodes.records m).span)) =
+      ap (map arc_of) (own_changed nodes arcs root room is new more (moves.cleared n.number) (cleared_owner n.number) changed notified.long spans_same m) ∙ arcs_cleared n (own_part arcs.arcs (record_of nodes.records m).span) in
       cc
 
   pub graph_noted : graph_of new.records more.arcs root ≡ noted before n
@@ -149,8 +149,10 @@ module _ (nodes : Table) (arcs : Pool) (root : NodeId) (room : Room) (is : IsSto
       let at_root : root ≡ before.root = ap (λ g. g.root) idled in
       cc
 
-  pub versions_noted : map (λ r. r.version) new.records ≡ map (λ r. r.version) nodes.records
-  versions_noted = map_alike (λ r. r.version) (λ r. r.version) no_node new.records nodes.records notified.long (λ m below. ap (λ r. r.version) (notified.each m))
+  pub versions_noted : more.changed ≡ arcs.changed → map (version_of more.changed) new.records ≡ map (version_of arcs.changed) nodes.records
+  versions_noted same_changes =
+      map_alike (version_of more.changed) (version_of arcs.changed) no_node new.records nodes.records notified.long (λ m below.
+      ap (λ changes. version_of changes (record_of new.records m)) same_changes ∙ ap (version_of arcs.changed) (notified.each m))
 
   -- the list of those that became active
   module _ (list : List NodeId) (woken : IsWokenList nodes.records new.records list) (there : n.number < length before.nodes) where

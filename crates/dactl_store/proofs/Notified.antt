@@ -3,7 +3,7 @@ use Rattle.std.proofs.Common.{◌≡◌, ℕ, zero, suc, ◌+◌, ◌-◌, ◌<�
 use Rattle.std.specs.List.{slice_get}
 use Rattle.std.proofs.lemmas.Bool.{eqb-true, eqb-false, eq-eqb, ne_eqb, cases_Bool, both_ways, and_parts}
 use Rattle.std.proofs.lemmas.Bool.Decides.{nat_tests}
-use Rattle.std.proofs.lemmas.Option.{get_or_from_slice_get}
+use Rattle.std.proofs.lemmas.Option.{slice_get_within, get_or_from_slice_get}
 use Rattle.std.proofs.lemmas.List.{map-append, length-map, length_push}
 use Rattle.std.proofs.lemmas.Map.Steps.{length-le_from_distinct_below}
 use Rattle.dactl_active.specs.Ring.{has}
@@ -20,7 +20,7 @@ use Rattle.dactl_model.specs.Noting.{noted_mark}
 use Rattle.dactl_model.proofs.Counting.{count_by-cons}
 use Rattle.dactl_store.specs.declared.table.NodeRecord.{NodeRecord}
 use Rattle.dactl_store.specs.Table.{Table, record_of, is_active}
-use Rattle.dactl_store.specs.Notifying.{notified, notified_along, wakes_owner, AreNotified, numbers, IsWokenList}
+use Rattle.dactl_store.specs.Notifying.{HasOwners, notified, notified_along, wakes_owner, AreNotified, numbers, IsWokenList}
 use Rattle.dactl_store.proofs.Rings.{record_of-set, has_push}
 use Rattle.dactl_store.proofs.Counting.{count_walk}
 
@@ -47,6 +47,10 @@ noted_more count (Waiting k) = elim (cases_Bool (leb k 1)) [
     ]
   ]
 ]
+
+pub owner_below : (records : List NodeRecord) (arcs : List ArcRecord) (i : ℕ) (found : ArcRecord) → HasOwners records arcs → slice_get arcs i ≡ Some found → found.owner < length records
+owner_below records arcs i found all at =
+    subst (λ a. a.owner < length records) (get_or_from_slice_get arcs i found found at) (all i found (slice_get_within arcs i found at))
 
 -- along how many of the arcs of a walk m waits
 abbrev pub along : List ArcRecord → List ℕ → ℕ → ℕ

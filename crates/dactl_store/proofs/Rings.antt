@@ -1,10 +1,10 @@
 -- The ring has the active nodes, whatever record is written.
 use Rattle.std.proofs.Common.{◌≡◌, ℕ, ◌<◌, ◌≤◌, Bool, true, false, cond, eqb, List, [], ◌∷◌, ◌++◌, length, set, refl, sym, ap, ◌∙◌, arith, inl, inr, length-set}
-use Rattle.std.proofs.lemmas.Bool.{eqb-true, eqb-false, cases_Bool}
+use Rattle.std.proofs.lemmas.Bool.{eqb-true, eqb-false, cases_Bool, cond-true}
 use Rattle.std.proofs.lemmas.Bool.Decides.{nat_tests}
 use Rattle.std.proofs.lemmas.List.{get_or-set_same, get_or-set_other, length_push}
 use Rattle.dactl_active.specs.Ring.{Ring, has, inserted}
-use Rattle.dactl_active.proofs.Numbers.{has-without}
+use Rattle.dactl_active.proofs.Numbers.{Lacks-from_has, has-without, without-lacking}
 use Rattle.dactl_model.specs.declared.graph.Mark.{Mark}
 use Rattle.dactl_model.specs.declared.graph.Mark.TheVariants.{Idle, Active, Waiting}
 use Rattle.dactl_model.specs.Acts.{marks_active}
@@ -29,6 +29,12 @@ pub has-ring_with : (mark : Mark) (ring : List ℕ) (n m : ℕ) → has (ring_wi
 has-ring_with Idle ring n m = has-without ring n m
 has-ring_with Active ring n m = has-inserted ring n m
 has-ring_with (Waiting k) ring n m = has-without ring n m
+
+-- the ring stays where the activity does
+pub ring_with-same : (mark : Mark) (ring : List ℕ) (n : ℕ) → has ring n ≡ marks_active mark → ring_with mark ring n ≡ ring
+ring_with-same Idle ring n is = without-lacking ring n (Lacks-from_has ring n is)
+ring_with-same Active ring n is = cond-true (has ring n) ring (ring ++ n ∷ []) is
+ring_with-same (Waiting k) ring n is = without-lacking ring n (Lacks-from_has ring n is)
 
 pub record_of-set : (records : List NodeRecord) (n m : ℕ) (written : NodeRecord) → n < length records → record_of (set records n written) m ≡ cond (eqb m n) written (record_of records m)
 record_of-set records n m written below = elim (cases_Bool (eqb m n)) [

@@ -27,8 +27,8 @@ use Rattle.dactl_model.specs.Ending.{arcs_of, IsPassive}
 use Rattle.dactl_store.specs.declared.table.NodeRecord.{NodeRecord}
 use Rattle.dactl_store.specs.Table.{Table, no_node, record_of, is_active, ring_with, IsValidTable}
 use Rattle.dactl_store.specs.Held.{Held, IsValid, HasActive, IsLast, IsReadingOf, left_in}
-use Rattle.dactl_store.specs.Layout.{arc_of, own_arcs, node_of, graph_of, held_of, spans_of, IsStore}
-use Rattle.dactl_store.proofs.Laying.{no_span, laid_span, arcs_together, length-own_arcs, own_arc_at}
+use Rattle.dactl_store.specs.Layout.{arc_of, own_part, node_of, graph_of, version_of, held_of, spans_of, IsStore}
+use Rattle.dactl_store.proofs.Laying.{no_span, laid_span, arcs_together, length-own_part, own_part_at}
 use Rattle.dactl_store.proofs.Rings.{has_push}
 
 pub is_Active : (mark : Mark) → marks_active mark ≡ true → mark ≡ Active
@@ -61,12 +61,6 @@ pub has-turned : (xs : List ℕ) (m : ℕ) → has (turned xs) m ≡ has xs m
 has-turned [] m = refl
 has-turned (x ∷ xs) m = grind (arith, nat_tests, has_push xs x m)
 
--- the ring stays where the mark does
-pub ring_with-same : (mark : Mark) (ring : List ℕ) (n : ℕ) → has ring n ≡ marks_active mark → ring_with mark ring n ≡ ring
-ring_with-same Idle ring n is = without-lacking ring n (Lacks-from_has ring n is)
-ring_with-same Active ring n is = cond-true (has ring n) ring (ring ++ n ∷ []) is
-ring_with-same (Waiting k) ring n is = without-lacking ring n (Lacks-from_has ring n is)
-
 pub seen_at : {X Y : Type 0} (g : X → Y) (P : Y → Type 0) (d : X) (xs : List X) (i : ℕ) → i < length xs → P (g (get_or xs i d)) → IsSomeAnd (slice_get (map g xs) i) P
 seen_at g P d [] i below is = absurd (omega arith)
 seen_at g P d (x ∷ xs) zero below is = is
@@ -86,12 +80,12 @@ pub map-map : {X Y Z : Type 0} (f : X → Y) (g : Y → Z) (xs : List X) → map
 map-map f g [] = refl
 map-map f g (x ∷ xs) = ap (λ ys. g (f x) ∷ ys) (map-map f g xs)
 
-sum_by-spans : (arcs : List ArcRecord) (records : List NodeRecord) → sum_by (λ node. length node.arcs) (map (node_of arcs) records) ≡ sum_by (λ span. length (own_arcs arcs span)) (spans_of records)
+sum_by-spans : (arcs : List ArcRecord) (records : List NodeRecord) → sum_by (λ node. length node.arcs) (map (node_of arcs) records) ≡ sum_by (λ span. length (own_part arcs span)) (spans_of records)
 sum_by-spans arcs [] = refl
 sum_by-spans arcs (r ∷ records) =
     sum_by-cons (λ node. length node.arcs) (node_of arcs r) (map (node_of arcs) records)
-    ∙ omega (arith, length-map (own_arcs arcs r.span) arc_of, sum_by-spans arcs records)
-    ∙ sym (sum_by-cons (λ span. length (own_arcs arcs span)) r.span (spans_of records))
+    ∙ omega (arith, length-map (own_part arcs r.span) arc_of, sum_by-spans arcs records)
+    ∙ sym (sum_by-cons (λ span. length (own_part arcs span)) r.span (spans_of records))
 
 module _ (nodes : Table) (arcs : Pool) (root : NodeId) (room : Room) (is : IsStore nodes arcs room) where
   pub arcs_counted : arcs_of (graph_of nodes.records arcs.arcs root) ≡ length arcs.arcs
@@ -114,7 +108,7 @@ module _ (nodes : Table) (arcs : Pool) (root : NodeId) (room : Room) (is : IsSto
       All-map (λ node. length node.arcs ≤ 16) (node_of arcs.arcs) nodes.records (λ i d below.
       let same : get_or nodes.records i d ≡ record_of nodes.records i = get_or_default nodes.records i d no_node below in
       subst (λ r. length (node_of arcs.arcs r).arcs ≤ 16) (sym same)
-      (omega (arith, length-map (own_arcs arcs.arcs (record_of nodes.records i).span) arc_of, length-take (record_of nodes.records i).span.count (drop (record_of nodes.records i).span.first arcs.arcs), span_few i below)))
+      (omega (arith, length-map (own_part arcs.arcs (record_of nodes.records i).span) arc_of, length-take (record_of nodes.records i).span.count (drop (record_of nodes.records i).span.first arcs.arcs), span_few i below)))
 
   pub valid : IsValidTable nodes → IsValid (held_of nodes arcs root room)
   valid table = record {
@@ -122,7 +116,7 @@ module _ (nodes : Table) (arcs : Pool) (root : NodeId) (room : Room) (is : IsSto
     nodes = omega (arith, nodes_counted, table.few, is.nodes_room);
     arcs = omega (arith, arcs_counted, is.few, is.arcs_room);
     few = few_arcs;
-    versions = length-map nodes.records (λ r. r.version) ∙ sym nodes_counted;
+    versions = length-map nodes.records (version_of arcs.changed) ∙ sym nodes_counted;
     active = λ n. (λ there. seen_active nodes.records arcs.arcs root n (sym (table.active n.number) ∙ there), λ active. table.active n.number ∙ active_seen nodes.records arcs.arcs root n active);
   }
 
@@ -143,36 +137,36 @@ module _ (nodes : Table) (arcs : Pool) (root : NodeId) (room : Room) (is : IsSto
       let few : IsSomeAnd (slice_get (map (node_of arcs.arcs) nodes.records) n.number) (λ node. length node.arcs < 16) = subst (λ h. IsSomeAnd (slice_get h.graph.nodes n.number) (λ node. length node.arcs < 16)) (sym seen) last.few in
       let own = (record_of nodes.records n.number).span in
       let below : n.number < length nodes.records = omega (arith, last_seen held seen n last) in
-      let few_own : length (map arc_of (own_arcs arcs.arcs (record_of nodes.records n.number).span)) < 16 = at_seen (node_of arcs.arcs) (λ node. length node.arcs < 16) no_node nodes.records n.number few in
-      omega (arith, few_own, length-map (own_arcs arcs.arcs own) arc_of, length-own_arcs arcs.arcs own (span_within n.number below))
+      let few_own : length (map arc_of (own_part arcs.arcs (record_of nodes.records n.number).span)) < 16 = at_seen (node_of arcs.arcs) (λ node. length node.arcs < 16) no_node nodes.records n.number few in
+      omega (arith, few_own, length-map (own_part arcs.arcs own) arc_of, length-own_part arcs.arcs own (span_within n.number below))
 
   pub arity_seen : (n : NodeId) → n.number < length nodes.records → HasArity (graph_of nodes.records arcs.arcs root) n (record_of nodes.records n.number).span.count
   arity_seen n below =
       let own = (record_of nodes.records n.number).span in
-      let few : (record_of nodes.records n.number).span.count ≡ length (map arc_of (own_arcs arcs.arcs (record_of nodes.records n.number).span)) =
-      sym (length-map (own_arcs arcs.arcs own) arc_of ∙ length-own_arcs arcs.arcs own (span_within n.number below)) in
+      let few : (record_of nodes.records n.number).span.count ≡ length (map arc_of (own_part arcs.arcs (record_of nodes.records n.number).span)) =
+      sym (length-map (own_part arcs.arcs own) arc_of ∙ length-own_part arcs.arcs own (span_within n.number below)) in
       seen_at (node_of arcs.arcs) (λ node. (record_of nodes.records n.number).span.count ≡ length node.arcs) no_node nodes.records n.number below few
 
   pub arc_seen : (n : NodeId) (place : ℕ) (found : ArcRecord) → n.number < length nodes.records → HasPlace (graph_of nodes.records arcs.arcs root) n place
       → slice_get arcs.arcs ((record_of nodes.records n.number).span.first + place) ≡ Some found → HasArc (graph_of nodes.records arcs.arcs root) n place (arc_of found)
   arc_seen n place found below there at =
       let own = (record_of nodes.records n.number).span in
-      let within : place < length (map arc_of (own_arcs arcs.arcs (record_of nodes.records n.number).span)) = at_seen (node_of arcs.arcs) (λ node. place < length node.arcs) no_node nodes.records n.number there in
+      let within : place < length (map arc_of (own_part arcs.arcs (record_of nodes.records n.number).span)) = at_seen (node_of arcs.arcs) (λ node. place < length node.arcs) no_node nodes.records n.number there in
       let fits = span_within n.number below in
-      let short : place < (record_of nodes.records n.number).span.count = omega (arith, within, length-map (own_arcs arcs.arcs own) arc_of, length-own_arcs arcs.arcs own fits) in
+      let short : place < (record_of nodes.records n.number).span.count = omega (arith, within, length-map (own_part arcs.arcs own) arc_of, length-own_part arcs.arcs own fits) in
       seen_at (node_of arcs.arcs) (λ node. slice_get node.arcs place ≡ Some (arc_of found)) no_node nodes.records n.number below
-      (slice_get-map arc_of (own_arcs arcs.arcs own) place ∙ ap (option_map arc_of) (own_arc_at arcs.arcs own place found short fits at))
+      (slice_get-map arc_of (own_part arcs.arcs own) place ∙ ap (option_map arc_of) (own_part_at arcs.arcs own place found short fits at))
 
   -- what is read of a node
-  pub content_seen : (n : NodeId) (targets : List NodeId) → n.number < length nodes.records → targets ≡ map (λ a. (arc_of a).target) (own_arcs arcs.arcs (record_of nodes.records n.number).span)
+  pub content_seen : (n : NodeId) (targets : List NodeId) → n.number < length nodes.records → targets ≡ map (λ a. (arc_of a).target) (own_part arcs.arcs (record_of nodes.records n.number).span)
       → content (graph_of nodes.records arcs.arcs root) n ≡ Some (record { label = (record_of nodes.records n.number).label; targets = targets })
   content_seen n targets below are =
       let node = node_of arcs.arcs (record_of nodes.records n.number) in
       let found : slice_get (map (node_of arcs.arcs) nodes.records) n.number ≡ Some (node_of arcs.arcs (record_of nodes.records n.number)) = mapped_at (node_of arcs.arcs) no_node nodes.records n.number below in
-      ap content_of found ∙ ap (λ ts. Some (record { label = (record_of nodes.records n.number).label; targets = ts })) (map-map arc_of (λ a. a.target) (own_arcs arcs.arcs (record_of nodes.records n.number).span) ∙ sym are)
+      ap content_of found ∙ ap (λ ts. Some (record { label = (record_of nodes.records n.number).label; targets = ts })) (map-map arc_of (λ a. a.target) (own_part arcs.arcs (record_of nodes.records n.number).span) ∙ sym are)
 
-  pub version_seen : (n : ℕ) → n < length nodes.records → slice_get (map (λ r. r.version) nodes.records) n ≡ Some (record_of nodes.records n).version
-  version_seen n below = mapped_at (λ r. r.version) no_node nodes.records n below
+  pub version_seen : (n : ℕ) → n < length nodes.records → slice_get (map (version_of arcs.changed) nodes.records) n ≡ Some (version_of arcs.changed (record_of nodes.records n))
+  version_seen n below = mapped_at (version_of arcs.changed) no_node nodes.records n below
 
 -- the front of the ring is active
 pub front_active : (nodes : Table) (arcs : List ArcRecord) (root : NodeId) (front : ℕ) → IsValidTable nodes → slice_get nodes.active 0 ≡ Some front → IsActive (graph_of nodes.records arcs root) (record { number = front })
@@ -210,16 +204,14 @@ valid_turned nodes arcs root room is table =
       active = λ n. (λ there. (before.active n).0 (sym (has-turned nodes.active n.number) ∙ there), λ active. has-turned nodes.active n.number ∙ (before.active n).1 active);
     }
 
-pub reading_seen : (nodes : Table) (arcs : Pool) (root : NodeId) (room : Room) → IsStore nodes arcs room → (n : NodeId) (found : NodeRecord) (targets : Targets) → n.number < length nodes.records
-    → found ≡ record_of nodes.records n.number → targets_of targets ≡ map (λ a. (arc_of a).target) (own_arcs arcs.arcs found.span)
-    → IsReadingOf (held_of nodes arcs root room) n (record { node = n; label = found.label; targets = targets; version = found.version })
-reading_seen nodes arcs root room is n found targets below at are =
-    let r = record_of nodes.records n.number in
+pub reading_seen : (nodes : Table) (arcs : Pool) (root : NodeId) (room : Room) → IsStore nodes arcs room → (n : NodeId) (found : NodeRecord) (targets : Targets) (version : ℕ) → n.number < length nodes.records
+    → found ≡ record_of nodes.records n.number → targets_of targets ≡ map (λ a. (arc_of a).target) (own_part arcs.arcs found.span) → version ≡ version_of arcs.changed found
+    → IsReadingOf (held_of nodes arcs root room) n (record { node = n; label = found.label; targets = targets; version = version })
+reading_seen nodes arcs root room is n found targets version below at are is_version =
     let label : found.label ≡ (record_of nodes.records n.number).label = ap (λ x. x.label) at in
-    let version : found.version ≡ (record_of nodes.records n.number).version = ap (λ x. x.version) at in
-    let own : targets_of targets ≡ map (λ a. (arc_of a).target) (own_arcs arcs.arcs (record_of nodes.records n.number).span) = are ∙ ap (λ x. map (λ a. (arc_of a).target) (own_arcs arcs.arcs x.span)) at in
+    let own : targets_of targets ≡ map (λ a. (arc_of a).target) (own_part arcs.arcs (record_of nodes.records n.number).span) = are ∙ ap (λ x. map (λ a. (arc_of a).target) (own_part arcs.arcs x.span)) at in
     record {
       node = refl;
       content = content_seen nodes arcs root room is n (targets_of targets) below own ∙ ap (λ l. Some (record { label = l; targets = targets_of targets })) (sym label);
-      version = version_seen nodes arcs root room is n.number below ∙ ap Some (sym version);
+      version = version_seen nodes arcs root room is n.number below ∙ ap Some (sym (is_version ∙ ap (version_of arcs.changed) at));
     }

@@ -21,6 +21,8 @@ pub record Held : Type 0 where
   pub versions : List ℕ
   pub active : List ℕ
   pub room : Room
+  -- the version that the last redirection gave, 0 before the first
+  pub newest : ℕ
 
 -- what holds of every store: the ring has the active nodes and no others
 pub record IsValid (held : Held) : Type 0 where

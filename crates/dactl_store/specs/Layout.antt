@@ -1,5 +1,5 @@
 -- How a store keeps a graph. No public clause cites this module.
-use Rattle.std.specs.Prelude.{◌≡◌, ℕ, ◌+◌, ◌<◌, ◌≤◌, ◌^◌, List, [], ◌∷◌, length, map, take, drop, All}
+use Rattle.std.specs.Prelude.{◌≡◌, ℕ, ◌+◌, ◌<◌, ◌≤◌, ◌^◌, max, List, [], ◌∷◌, length, map, take, drop, All}
 use Rattle.dactl_arcs.specs.declared.lists.ArcRecord.{ArcRecord}
 use Rattle.dactl_arcs.specs.Pool.{Pool, targets}
 use Rattle.dactl_model.specs.declared.graph.NodeId.{NodeId}
@@ -16,9 +16,9 @@ use Rattle.dactl_store.specs.Held.{Held}
 abbrev pub arc_of : ArcRecord → Arc
 arc_of a = record { target = record { number = a.target }; waits = a.waits }
 
--- the records of a node's arcs
-abbrev pub own_arcs : List ArcRecord → Span → List ArcRecord
-own_arcs arcs span = take span.count (drop span.first arcs)
+-- of a list by arcs, the part for a node's own
+abbrev pub own_part : {X : Type 0} → List X → Span → List X
+own_part xs span = take span.count (drop span.first xs)
 
 -- the arcs of the span are there
 abbrev pub IsWithin : List ArcRecord → Span → Type 0
@@ -26,19 +26,29 @@ IsWithin arcs span = span.first + span.count ≤ length arcs
 
 -- the node of a record
 abbrev pub node_of : List ArcRecord → NodeRecord → Node
-node_of arcs node = record { label = node.label; arcs = map arc_of (own_arcs arcs node.span); mark = node.mark }
+node_of arcs node = record { label = node.label; arcs = map arc_of (own_part arcs node.span); mark = node.mark }
 
 -- the graph of the records
 abbrev pub graph_of : List NodeRecord → List ArcRecord → NodeId → Graph
 graph_of nodes arcs root = record { nodes = map (node_of arcs) nodes; root = root }
 
+-- the greatest of a version and of changes
+abbrev pub greatest : ℕ → List ℕ → ℕ
+greatest version [] = version
+greatest version (change ∷ changes) = greatest (max version change) changes
+
+-- the version of a node: the greatest of that with which it was added and of the last changes of its arcs
+abbrev pub version_of : List ℕ → NodeRecord → ℕ
+version_of changed node = greatest node.version (own_part changed node.span)
+
 -- what a contract sees of the parts of a store
 abbrev pub held_of : Table → Pool → NodeId → Room → Held
 held_of nodes arcs root room = record {
   graph = graph_of nodes.records arcs.arcs root;
-  versions = map (λ node. node.version) nodes.records;
+  versions = map (version_of arcs.changed) nodes.records;
   active = nodes.active;
   room = room;
+  newest = arcs.newest;
 }
 
 -- the arcs, of which the first has the number `at`, are those of the spans in their order, which are those of the nodes from
@@ -59,4 +69,5 @@ pub record IsStore (nodes : Table) (arcs : Pool) (room : Room) : Type 0 where
   pub arcs_room : arcs.room ≡ room.arcs
   pub fits : room.arcs < 2 ^ 32
   pub few : length arcs.arcs ≤ arcs.room
+  pub changes : length arcs.changed ≡ length arcs.arcs
   pub laid : AreLaid 0 0 (spans_of nodes.records) arcs.arcs

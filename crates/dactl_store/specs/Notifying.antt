@@ -1,5 +1,5 @@
 -- What a notification does to the table of nodes.
-use Rattle.std.specs.Prelude.{◌≡◌, ℕ, ◌==◌, ◌&&◌, Bool, not, List, [], ◌∷◌, ◌++◌, length, map, nat_eq, count_by, slice_set, if◌then◌else◌}
+use Rattle.std.specs.Prelude.{◌≡◌, ℕ, ◌<◌, ◌==◌, ◌&&◌, Bool, not, All, List, [], ◌∷◌, ◌++◌, length, map, nat_eq, count_by, slice_set, if◌then◌else◌}
 use Rattle.std.specs.List.{IsDistinct}
 use Rattle.dactl_active.specs.Ring.{has}
 use Rattle.dactl_arcs.specs.declared.lists.ArcRecord.{ArcRecord}
@@ -9,6 +9,10 @@ use Rattle.dactl_model.specs.Noting.{noted_mark}
 use Rattle.dactl_model.specs.Rooms.{NodeList}
 use Rattle.dactl_store.specs.declared.table.NodeRecord.{NodeRecord}
 use Rattle.dactl_store.specs.Table.{Table, record_of, is_active}
+
+-- each arc is a node's
+abbrev pub HasOwners : List NodeRecord → List ArcRecord → Type 0
+HasOwners records arcs = All (λ a. a.owner < length records) arcs
 
 -- the record after so many notifications
 abbrev pub notified : ℕ → NodeRecord → NodeRecord

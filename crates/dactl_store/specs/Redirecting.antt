@@ -1,8 +1,5 @@
 -- What a redirection does.
-use Rattle.std.specs.Prelude.{◌≡◌, ◌≢◌, ℕ, ◌<◌, ◌==◌, ◌&&◌, Bool, not, List, [], ◌∷◌, length, map, All, slice_get, if◌then◌else◌}
-use Rattle.std.specs.List.{list_any}
-use Rattle.dactl_arcs.specs.declared.lists.ArcRecord.{ArcRecord}
-use Rattle.dactl_arcs.specs.Moves.{moved_to}
+use Rattle.std.specs.Prelude.{◌≡◌, ◌≢◌, ℕ, ◌<◌, ◌≤◌, List, [], ◌∷◌, length, map, All, slice_get, if◌then◌else◌}
 use Rattle.dactl_model.specs.declared.graph.NodeId.{NodeId}
 use Rattle.dactl_model.specs.declared.graph.Node.{Node}
 use Rattle.dactl_model.specs.declared.graph.Graph.{Graph}
@@ -10,8 +7,6 @@ use Rattle.dactl_model.specs.Graphs.{HasNode}
 use Rattle.dactl_model.specs.Patterns.{same_node}
 use Rattle.dactl_model.specs.Firing.{redirected_arc}
 use Rattle.dactl_model.specs.Versions.{content}
-use Rattle.dactl_store.specs.declared.table.NodeRecord.{NodeRecord}
-use Rattle.dactl_store.specs.Table.{record_of}
 use Rattle.dactl_store.specs.Held.{Held, IsVersionAt}
 
 -- both nodes of each pair are below the number
@@ -37,23 +32,11 @@ pub record IsVersioned (version : ℕ) (before after : Held) : Type 0 where
   pub kept : (n : NodeId) → HasNode after.graph n → content after.graph n ≡ content before.graph n → slice_get after.versions n.number ≡ slice_get before.versions n.number
   pub given : (n : NodeId) → HasNode after.graph n → content after.graph n ≢ content before.graph n → IsVersionAt after n version
 
+-- the version is greater than that of each redirection before, and no node has a greater one
+pub record IsLatest (version : ℕ) (held : Held) : Type 0 where
+  pub newer : held.newest < version
+  pub most : All (λ v. v ≤ version) held.versions
+
 -- the pairs by the numbers of their nodes
 abbrev pub number_pairs : List (NodeId × NodeId) → List (ℕ × ℕ)
 number_pairs moves = map (λ move. (move.0.number, move.1.number)) moves
-
--- each arc is a node's
-abbrev pub HasOwners : List NodeRecord → List ArcRecord → Type 0
-HasOwners records arcs = All (λ a. a.owner < length records) arcs
-
--- whether the node of this number has an arc to the target
-abbrev pub has_arc : List ArcRecord → ℕ → ℕ → Bool
-has_arc arcs target owner = list_any (λ a. (a.target == target) && (a.owner == owner)) arcs
-
--- whether the pairs move an arc of the node of this number
-abbrev pub is_moved : List ArcRecord → List (ℕ × ℕ) → ℕ → Bool
-is_moved arcs moves owner = list_any (λ a. not (moved_to moves a.target == a.target) && (a.owner == owner)) arcs
-
--- the nodes that pass the test have the version, and all else is as it was
-pub record IsGiven (test : ℕ → Bool) (version : ℕ) (old new : List NodeRecord) : Type 0 where
-  pub long : length new ≡ length old
-  pub each : (m : ℕ) → record_of new m ≡ (if test m then record (record_of old m) { version = version } else record_of old m)

@@ -28,6 +28,7 @@ pub record IsBegun (start : Start) (limit : Room) (held : Held) : Type 0 where
   pub graph : held.graph ≡ start_of start
   pub versions : held.versions ≡ map (λ _. 0) start.fresh
   pub room : held.room ≡ limit
+  pub newest : held.newest ≡ 0
 
 -- the start is too large, as both rooms tell, or it isn't, and memory was wanting
 abbrev pub IsCause : Start → Room → BeginCause → Type 0

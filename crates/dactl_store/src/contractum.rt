@@ -61,6 +61,7 @@ impl Store {
         ensures graph { self.new.graph ≡ with_fresh self.old.graph bindings.now fresh.now }
         ensures versions { self.new.versions ≡ self.old.versions ++ map (λ _. version) fresh.now }
         ensures room { self.new.room ≡ self.old.room }
+        ensures newest { self.new.newest ≡ self.old.newest }
     {
         let first = self.next_number();
         for node in fresh {

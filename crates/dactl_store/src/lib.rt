@@ -4,6 +4,7 @@
 
 mod contractum;
 mod notify;
+mod reading;
 mod redirect;
 mod start;
 mod store;

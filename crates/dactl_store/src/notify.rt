@@ -7,8 +7,7 @@ ghost use Rattle.dactl_model.specs.Graphs.{HasNode};
 ghost use Rattle.dactl_model.specs.Acts.{marks_active, acts_of_step};
 ghost use Rattle.dactl_model.specs.Noting.{noted_mark, noted};
 ghost use Rattle.dactl_store.specs.Table.{record_of};
-ghost use Rattle.dactl_store.specs.Redirecting.{HasOwners};
-ghost use Rattle.dactl_store.specs.Notifying.{Follows, AreNotified, IsWokenList, wakes_owner};
+ghost use Rattle.dactl_store.specs.Notifying.{HasOwners, Follows, AreNotified, IsWokenList, wakes_owner};
 
 use crate::store::Store;
 use crate::table::{NodeRecord, NodeTable};
@@ -82,6 +81,7 @@ impl Store {
         ensures graph { self.new.graph ≡ noted self.old.graph n }
         ensures versions { self.new.versions ≡ self.old.versions }
         ensures room { self.new.room ≡ self.old.room }
+        ensures newest { self.new.newest ≡ self.old.newest }
         ensures woken { woken.new.list ≡ acts_of_step self.old.graph (Note n) self.new.graph }
         ensures list_room { woken.new.room ≡ woken.old.room }
     {

@@ -5,21 +5,21 @@ ghost use Rattle.dactl_active.specs.Ring.{turned};
 ghost use Rattle.dactl_model.specs.Graphs.{HasNode, HasArity};
 ghost use Rattle.dactl_model.specs.Matching.{IsActive};
 ghost use Rattle.dactl_model.specs.Ending.{IsPassive, arcs_of};
-ghost use Rattle.dactl_model.specs.Readings.{targets_of};
 ghost use Rattle.dactl_store.specs.Table.{ring_with};
-ghost use Rattle.dactl_store.specs.Held.{IsValid, IsVersionAt, IsReadingOf, HasActive, left_in, with_node, with_mark, with_arcs, node_with, arc_to, HasFreeNode, HasFreeArc, IsLast};
-ghost use Rattle.dactl_store.specs.Layout.{own_arcs, arc_of, IsWithin};
+ghost use Rattle.dactl_store.specs.Held.{IsValid, HasActive, left_in, with_node, with_mark, with_arcs, node_with, arc_to, HasFreeNode, HasFreeArc, IsLast};
 
 use crate::table::{NodeRecord, NodeTable, Span};
 use dactl_active::Memory;
 use dactl_arcs::ArcPool;
 use dactl_model::graph::{Label, Mark, NodeId, Room};
-use dactl_model::reading::{Reading, Targets};
 use std::alloc::Global;
 use std::marker::Model;
 
 /// A graph that is changed in place, with a version for each node, a ring of its active nodes, and room for
 /// so many nodes and arcs.
+///
+/// A node's version is the greatest of that with which it was added and of those that redirections gave its
+/// arcs, so a redirection touches no node.
 ///
 /// All memory is taken when it is made. Between the calls that add a new part of a graph, arcs may lead to
 /// nodes that are still to be added.
@@ -43,24 +43,6 @@ impl Model for Store {
     ghost invariant = { λ s. IsStore s.nodes s.arcs s.room };
 }
 
-// The targets of the arcs of a node.
-fn targets_along(arcs: &ArcPool, span: Span) -> Targets
-    requires within { IsWithin arcs.now.arcs span }
-    requires fits { length arcs.now.arcs < 2 ^ 32 }
-    requires few { span.count ≤ 16 }
-    ensures { targets_of result ≡ map (λ a. (arc_of a).target) (own_arcs arcs.now.arcs span) }
-{
-    let mut nodes = [NodeId { number: 0 }; 16];
-    for place in 0..span.count {
-        let target = arcs.arc(span.first + place as u32).target;
-        nodes[place as usize] = NodeId { number: target };
-    }
-    Targets {
-        count: span.count,
-        nodes,
-    }
-}
-
 impl Store {
     /// A store without nodes. The root is a node that is still to be added.
     pub(crate) fn with_room(alloc: Global, root: NodeId, room: Room) -> Result<Store, Memory>
@@ -69,6 +51,7 @@ impl Store {
           versions = [];
           active = [];
           room = room;
+          newest = 0;
         }) }
     {
         Ok(Store {
@@ -96,29 +79,6 @@ impl Store {
         ensures valid { IsValid self.now }
     {
         self.nodes.count()
-    }
-
-    /// The number of the entry that last gave the node its label and targets, or 0 where it has them from
-    /// the start.
-    pub fn version(&self, n: NodeId) -> u32
-        requires { HasNode self.now.graph n }
-        ensures { IsVersionAt self.now n result }
-    {
-        self.nodes.get(n.number).version
-    }
-
-    /// What is to be read of a node.
-    pub fn reading(&self, n: NodeId) -> Reading
-        requires { HasNode self.now.graph n }
-        ensures { IsReadingOf self.now n result }
-    {
-        let node = self.nodes.get(n.number);
-        Reading {
-            node: n,
-            label: node.label,
-            targets: targets_along(&self.arcs, node.span),
-            version: node.version,
-        }
     }
 
     /// Whether a node is active.

@@ -18,7 +18,7 @@ pub struct Span {
     pub count: u8,
 }
 
-/// A node: what it is, when it last got its label and targets, and which arcs are its own.
+/// A node: what it is, the version with which it was added, and which arcs are its own.
 #[derive(Clone, Copy, Drop)]
 pub struct NodeRecord {
     pub label: Label,
@@ -46,13 +46,24 @@ impl Model for NodeTable {
     ghost invariant = { λ t. IsTable t.records.items t.ring t.room (vec_capacity t.records) };
 }
 
-// Puts the node into the ring where its mark is active, and takes it out where it isn't.
-fn place(ring: &mut Ring, node: u32, mark: Mark)
-    requires { node < ring.old.room }
-    ensures numbers { ring.new.numbers ≡ ring_with mark ring.old.numbers node }
+fn is_active(mark: Mark) -> bool
+    ensures { result ≡ marks_active mark }
+{
+    matches!(mark, Mark::Active)
+}
+
+// Puts the node into the ring where its mark became active, takes it out where it was so, and else leaves
+// the ring alone.
+fn place(ring: &mut Ring, node: u32, before: Mark, after: Mark)
+    requires node { node < ring.old.room }
+    requires before { has ring.old.numbers node ≡ marks_active before }
+    ensures numbers { ring.new.numbers ≡ ring_with after ring.old.numbers node }
     ensures room { ring.new.room ≡ ring.old.room }
 {
-    match mark {
+    if is_active(after) == is_active(before) {
+        return;
+    }
+    match after {
         Mark::Active => ring.insert(node),
         _ => ring.remove(node),
     }
@@ -83,6 +94,7 @@ impl NodeTable {
         requires { node < length self.now.records }
         ensures found { result ≡ record_of self.now.records node }
         ensures ring { has self.now.active node ≡ marks_active result.mark }
+        ensures valid { IsValidTable self.now }
     {
         self.records[node as usize]
     }
@@ -113,7 +125,7 @@ impl NodeTable {
     {
         let number = self.records.len() as u32;
         self.records.push_reserved(node);
-        place(&mut self.ring, number, node.mark);
+        place(&mut self.ring, number, Mark::Idle, node.mark);
     }
 
     /// Gives a node another record.
@@ -125,7 +137,8 @@ impl NodeTable {
           room = self.old.room;
         } }
     {
+        let before = self.records[node as usize].mark;
         self.records[node as usize] = written;
-        place(&mut self.ring, node, written.mark);
+        place(&mut self.ring, node, before, written.mark);
     }
 }

@@ -1,6 +1,7 @@
-ghost use Rattle.std.specs.Prelude.{◌≡◌};
+ghost use Rattle.std.specs.Prelude.{◌≡◌, ◌+◌, ◌<◌, ◌^◌, IfOk};
 ghost use Rattle.dactl_model.specs.Graphs.{HasNode};
 ghost use Rattle.dactl_store.specs.Held.{IsValid};
+ghost use Rattle.dactl_store.specs.Redirecting.{IsLatest};
 
 use crate::{BeginCause, Memory, Store};
 use dactl_model::arithmetic::arithmetic_rule;
@@ -83,13 +84,16 @@ fn room(nodes: u32, arcs: u32) -> Room {
     Room { nodes, arcs }
 }
 
-/// The store with the start, and this room.
-fn begun(rt: &impl Abort, alloc: Global, room: Room) -> Result<Store, BeginCause> {
+/// The store with the start, and this room. Each version from 1 on is later than those in it.
+fn begun(rt: &impl Abort, alloc: Global, room: Room) -> Result<Store, BeginCause>
+    ensures { IfOk result (IsLatest 1) }
+{
     let Ok(program) = program(alloc) else {
         return Err(BeginCause::Memory);
     };
     assert!(rt; is_valid(&program));
-    Store::begin(alloc, &program.start, room)
+    let store = Store::begin(alloc, &program.start, room)?;
+    Ok(store)
 }
 
 fn id(number: u32) -> NodeId
@@ -281,10 +285,13 @@ fn nodes_are_added_up_to_the_room(rt: HostRuntime) -> Result<(), Fail> {
 }
 
 /// Redirects by two pairs, if their nodes are within the room.
-fn redirect(store: &mut Store, moves: [(u32, u32); 2], version: u32) -> bool {
+fn redirect(store: &mut Store, moves: [(u32, u32); 2], version: u32) -> bool
+    requires { IsLatest version store.old }
+    ensures { IsLatest (version + 1) store.new }
+{
     let room = store.next_number() + store.left().nodes;
     let [(first, first_to), (second, second_to)] = moves;
-    if first >= room || first_to >= room || second >= room || second_to >= room {
+    if first.max(first_to).max(second.max(second_to)) >= room {
         return false;
     }
     let pairs = [(id(first), id(first_to)), (id(second), id(second_to))];
@@ -294,18 +301,24 @@ fn redirect(store: &mut Store, moves: [(u32, u32); 2], version: u32) -> bool {
 
 /// Whether the root, the targets and the versions are sent, in turn, by a pair that would follow another, a
 /// root and a second pair of one node, pairs that change nothing, two nodes that change places, and a node
-/// that is still to be added.
-fn are_sent(store: &mut Store) -> bool {
-    for (version, moves, root, targets, given) in [
-        (4, [(1, 3), (3, 2)], 0, [3, 2], 4),
-        (5, [(0, 1), (0, 2)], 1, [3, 2], 4),
-        (6, [(2, 2), (3, 3)], 1, [3, 2], 4),
-        (7, [(2, 3), (3, 2)], 1, [2, 3], 7),
-        (8, [(3, 5), (1, 5)], 5, [2, 5], 8),
+/// that is still to be added. The redirections give the versions from 1 on, and each node has the last one
+/// that one of its arcs got.
+fn are_sent(store: &mut Store) -> bool
+    requires { IsLatest 1 store.old }
+{
+    let mut version = 1;
+    for (moves, root, targets, given) in [
+        ([(1, 3), (3, 2)], 0, [3, 2], 1),
+        ([(0, 1), (0, 2)], 1, [3, 2], 1),
+        ([(2, 2), (3, 3)], 1, [3, 2], 1),
+        ([(2, 3), (3, 2)], 1, [2, 3], 4),
+        ([(3, 5), (1, 5)], 5, [2, 5], 5),
+        ([(2, 1), (5, 5)], 5, [1, 5], 6),
     ] {
         if !redirect(store, moves, version) || !has_start(store, root, targets, given) {
             return false;
         }
+        version += 1;
     }
     true
 }

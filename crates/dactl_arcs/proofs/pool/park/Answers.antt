@@ -3,13 +3,15 @@ use Rattle.dactl_arcs.proofs.Moving.{parked_none, parks}
 use Rattle.dactl_arcs.proofs.pool.park.Goals as goal
 
 pub loop-place-init : goal.loop-place-init
-loop-place-init c = (record { targets = refl; room = refl }, sym (parked_none c.args.spare c.args.lists.now.arcs))
+loop-place-init c = (record { targets = refl; room = refl }, sym (parked_none c.args.spare c.args.lists.now.arcs), refl, refl)
 
 pub loop-place-preserved : goal.loop-place-preserved
 loop-place-preserved c =
     let kept = c.loop-place.invariant.0 in
     let inside : c.loop-place.place < length c.args.moves.now = omega arith in
     let below = c.requires.below c.loop-place.place (0, 0) inside in (
-      record { targets = c.move_all.ensures.kept.targets ∙ kept.targets; room = c.move_all.ensures.kept.room ∙ kept.room },
-      parks c.args.spare c.loop-place.place c.args.moves.now (0, 0) inside _ _ _ below.0 c.loop-place.invariant.1 c.move_all.ensures.arcs,
+      record { targets = c.merge.ensures.kept.targets ∙ kept.targets; room = c.merge.ensures.kept.room ∙ kept.room },
+      parks c.args.spare c.loop-place.place c.args.moves.now (0, 0) inside _ _ _ below.0 c.loop-place.invariant.1 c.merge.ensures.arcs,
+      c.merge.ensures.changed ∙ c.loop-place.invariant.2,
+      c.merge.ensures.newest ∙ c.loop-place.invariant.3,
     )

@@ -5,4 +5,4 @@ use Rattle.dactl_arcs.proofs.pool.park.Given as goal
 
 -- the arcs of the pairs so far are parked
 abbrev pub invariant-loop-place : goal.invariant-loop-place
-invariant-loop-place l = IsKept l.initial.lists l.lists × (l.lists.arcs ≡ map (parked l.spare (take l.place l.moves)) l.initial.lists.arcs)
+invariant-loop-place l = IsKept l.initial.lists l.lists × (l.lists.arcs ≡ map (parked l.spare (take l.place l.moves)) l.initial.lists.arcs) × (l.lists.changed ≡ l.initial.lists.changed) × (l.lists.newest ≡ l.initial.lists.newest)

@@ -40,5 +40,6 @@ returns-clause-ok c =
       };
       versions = c.make.ensures.versions;
       room = c.make.ensures.room;
+      newest = c.make.ensures.newest;
       woken = c.make.ensures.list ∙ ap (λ g. acts_from old.graph c.args.node 0 g.nodes) (sym c.make.ensures.graph);
     }

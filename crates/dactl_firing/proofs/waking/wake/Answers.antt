@@ -10,6 +10,7 @@ returns-then-is_idle c =
       graph = ap (λ h. h.graph) c.set_mark.ensures ∙ ap (with_nodes c.args.store.now.graph) (wake_idle c.args.node.number c.args.store.now.graph.nodes idle);
       versions = ap (λ h. h.versions) c.set_mark.ensures;
       room = ap (λ h. h.room) c.set_mark.ensures;
+      newest = ap (λ h. h.newest) c.set_mark.ensures;
       list = ap (λ w. w.list) c.push.ensures ∙ sym (ap (λ b. cond b (c.args.woken.now.list ++ c.args.node ∷ []) c.args.woken.now.list) idle);
       list_room = ap (λ w. w.room) c.push.ensures;
     }
@@ -21,6 +22,7 @@ returns-else-is_idle c =
       graph = ap (with_nodes c.args.store.now.graph) (wake_other c.args.node.number c.args.store.now.graph.nodes other);
       versions = refl;
       room = refl;
+      newest = refl;
       list = sym (ap (λ b. cond b (c.args.woken.now.list ++ c.args.node ∷ []) c.args.woken.now.list) other);
       list_room = refl;
     }

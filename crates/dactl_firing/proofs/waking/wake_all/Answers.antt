@@ -35,6 +35,7 @@ loop-variable-preserved c =
       root = ap (λ g. g.root) c.wake.ensures.graph ∙ now.root;
       versions = c.wake.ensures.versions ∙ now.versions;
       room = c.wake.ensures.room ∙ now.room;
+      newest = c.wake.ensures.newest ∙ now.newest;
       wakening = wakening_step c.args.store.now.graph.nodes c.loop-variable.store.graph.nodes c.wake.new.store.graph.nodes c.loop-variable.woken.list c.wake.new.woken.list node now.wakening changed c.wake.ensures.list;
       list_room = c.wake.ensures.list_room ∙ now.list_room;
     }

@@ -10,6 +10,7 @@ invariant-loop-variable l = record {
   root : l.store.graph.root ≡ l.initial.store.graph.root;
   versions : l.store.versions ≡ l.initial.store.versions;
   room : l.store.room ≡ l.initial.store.room;
+  newest : l.store.newest ≡ l.initial.store.newest;
   wakening : IsWakening l.initial.store.graph.nodes l.store.graph.nodes l.woken.list;
   list_room : l.woken.room ≡ l.initial.woken.room;
 }

@@ -1,8 +1,7 @@
 use Rattle.std.proofs.Common.{◌≡◌, ◌∷◌, ◌<◌, length, Some, ap, subst, ◌∙◌, arith}
 use Rattle.std.specs.Option.{IfSome}
 use Rattle.dactl_arcs.specs.Pool.{LeadsTo, arcs_into, rest_of_walk}
-use Rattle.dactl_store.proofs.Giving.{owner_below}
-use Rattle.dactl_store.proofs.Notified.{woken_room, wakes_passive, notifying_more, notifying_ends, woken_ends}
+use Rattle.dactl_store.proofs.Notified.{owner_below, woken_room, wakes_passive, notifying_more, notifying_ends, woken_ends}
 use Rattle.dactl_store.proofs.notify.notify_owners.Goals as goal
 
 pub follow-requires-clause-room : goal.follow-requires-clause-room

@@ -14,7 +14,7 @@ use Rattle.dactl_store.specs.Redirecting.{sent, redirected_node}
 use Rattle.dactl_firing.specs.Waking.{with_nodes}
 use Rattle.dactl_firing.proofs.Made.{acts_few, graph_made, list_made}
 use Rattle.dactl_firing.proofs.Moves.{pair_below}
-use Rattle.dactl_firing.proofs.Ready.{settled_count, versions_made}
+use Rattle.dactl_firing.proofs.Ready.{latest_grown, settled_count, versions_made}
 use Rattle.dactl_firing.proofs.site.Site.make_result.Goals as goal
 
 pub append-made-requires : goal.append-made-requires
@@ -34,6 +34,13 @@ redirect-requires-clause-nodes c =
     pair_below c.append-made.new.self.room.nodes c.args.self.now.node c.append-made.result
     (omega (arith, ap (λ r. r.nodes) room, c.requires.site.node, c.requires.valid.nodes))
     (omega (arith, ap (λ r. r.nodes) room, c.append-made.ensures.number, count, c.requires.fits.nodes, c.requires.valid.nodes))
+
+pub redirect-requires-clause-latest : goal.redirect-requires-clause-latest
+redirect-requires-clause-latest c =
+    let fresh : List FreshNode = new_nodes (Delta c.args.op) c.args.store.now.graph c.args.self.now.bindings.now in
+    latest_grown c.args.store.now c.append-made.new.self c.args.self.now.entry fresh c.requires.latest
+    (ap (λ s. s.newest) c.append-made.ensures.added ∙ c.settle.ensures.newest)
+    (ap (λ s. s.versions) c.append-made.ensures.added ∙ ap (λ vs. vs ++ c.args.self.now.entry ∷ []) c.settle.ensures.versions)
 
 pub returns : goal.returns
 returns c =
@@ -60,6 +67,7 @@ returns c =
           (ap (λ x. x.nodes) with_new) (ap (λ s. s.versions) c.append-made.ensures.added) c.redirect.ensures.versions
           (ap (λ x. length x.nodes) c.redirect.ensures.graph ∙ length-map second.graph.nodes (redirected_node (sent ((n, c.append-made.result) ∷ []))));
       room = c.redirect.ensures.room ∙ ap (λ s. s.room) c.append-made.ensures.added ∙ c.settle.ensures.room;
+      newest = c.redirect.ensures.newest;
       list = list_made g n h fresh moves [] first.graph c.settle.new.woken.list c.push.new.self.list settled c.settle.ensures.list
           (ap (λ w. w.list) c.push.ensures ∙ ap (λ (k : ℕ). c.settle.new.woken.list ++ record { number = k } ∷ []) number);
       list_room = ap (λ w. w.room) c.push.ensures ∙ c.settle.ensures.list_room;

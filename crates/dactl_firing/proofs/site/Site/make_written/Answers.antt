@@ -10,7 +10,7 @@ use Rattle.dactl_firing.specs.Site.{pairs_of}
 use Rattle.dactl_firing.specs.Waking.{with_nodes, new_acts}
 use Rattle.dactl_firing.proofs.Made.{acts_few, graph_made, list_made, pairs_send}
 use Rattle.dactl_firing.proofs.Moves.{pairs_below, moves_few}
-use Rattle.dactl_firing.proofs.Ready.{settled_count, settled_arcs, can_append, versions_made}
+use Rattle.dactl_firing.proofs.Ready.{settled_count, settled_arcs, can_append, latest_grown, versions_made}
 use Rattle.dactl_firing.proofs.site.Site.make_written.Goals as goal
 
 pub append_contractum-requires : goal.append_contractum-requires
@@ -43,6 +43,12 @@ redirect-requires-clause-nodes c =
     (omega (arith, nodes, count, c.next_number-first.ensures.number, c.requires.fits.nodes, c.requires.valid.nodes))
     c.requires.body.1.move_ends
 
+pub redirect-requires-clause-latest : goal.redirect-requires-clause-latest
+redirect-requires-clause-latest c =
+    latest_grown c.args.store.now c.append_contractum.new.self c.args.self.now.entry c.args.fresh.now c.requires.latest
+    (c.append_contractum.ensures.newest ∙ c.settle.ensures.newest)
+    (c.append_contractum.ensures.versions ∙ ap (λ vs. vs ++ map (λ _. c.args.self.now.entry) c.args.fresh.now) c.settle.ensures.versions)
+
 pub returns : goal.returns
 returns c =
     let old = c.args.store.now in
@@ -69,6 +75,7 @@ returns c =
           (length-map fresh (fresh_node (length first.graph.nodes) h (λ x. x))) (ap (λ x. x.nodes) c.append_contractum.ensures.graph) c.append_contractum.ensures.versions c.redirect.ensures.versions
           (ap (λ x. length x.nodes) c.redirect.ensures.graph ∙ length-map second.graph.nodes (redirected_node (sent (pairs_of start n h moves))));
       room = c.redirect.ensures.room ∙ c.append_contractum.ensures.room ∙ c.settle.ensures.room;
+      newest = c.redirect.ensures.newest;
       list = list_made g n h fresh moves wakes first.graph c.settle.new.woken.list c.list_new.new.woken.list settled c.settle.ensures.list
           (c.list_new.ensures.list ∙ ap (λ m. c.settle.new.woken.list ++ new_acts m fresh) start_is);
       list_room = c.list_new.ensures.room ∙ c.settle.ensures.list_room;

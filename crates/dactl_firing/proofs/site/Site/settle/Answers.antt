@@ -30,6 +30,7 @@ returns c =
       graph = c.wake_all.ensures.graph ∙ ap (λ g. with_nodes g (woken_nodes h wakes 0 g.nodes)) marked ∙ ap (with_nodes before) (settled n h wakes n.number 0 before.nodes (omega arith));
       versions = c.wake_all.ensures.versions ∙ ap (λ s. s.versions) c.set_mark.ensures;
       room = c.wake_all.ensures.room ∙ ap (λ s. s.room) c.set_mark.ensures;
+      newest = c.wake_all.ensures.newest ∙ ap (λ s. s.newest) c.set_mark.ensures;
       list = acts_are before c.wake_all.new.store.graph (Fire n 0) c.wake_all.new.woken.list c.sort.new.self.list woken.distinct c.sort.ensures.same c.sort.ensures.ascending
           (acts_listed before n c.wake_all.new.store.graph.nodes c.wake_all.new.woken.list woken);
       list_room = c.sort.ensures.room ∙ c.wake_all.ensures.list_room ∙ ap (λ w. w.room) c.clear.ensures;

@@ -25,11 +25,12 @@ invariant_of-self c =
     let s = c.self.inside in
     let few : (record_of c.self.inside.nodes.records c.args.owner.number).span.count + 1 ≤ 16 = last_few s.nodes s.arcs s.root s.room c.self.invariant _ c.self.view_is c.args.owner c.requires.owner in
     let grown = rw c.in-Ok.is at c.add-added.ensures.added in
+    let later = rw c.in-Ok.is at c.add-added.ensures.changed in
     let free : length c.self.inside.arcs.arcs < c.self.inside.arcs.room =
     omega (arith, c.self.invariant.arcs_room, arcs_counted s.nodes s.arcs s.root s.room c.self.invariant, ap (λ held. arcs_of held.graph) c.self.view_is, ap (λ held. held.room.arcs) c.self.view_is) in
     let count = ap (λ r. r.span.count) c.get-node.ensures.found in
     rw c.set.ensures
-    (IsStore-more s.nodes s.arcs s.root s.room c.self.invariant c.add-added.new.self c.args.owner.number (arc_record c.args.owner.number c.args.target.number c.args.waits) grown c.add-added.ensures.kept
+    (IsStore-more s.nodes s.arcs s.root s.room c.self.invariant c.add-added.new.self c.args.owner.number (arc_record c.args.owner.number c.args.target.number c.args.waits) grown later c.add-added.ensures.newest c.add-added.ensures.kept
     (last_seen s.nodes s.arcs s.root s.room c.self.invariant _ c.self.view_is c.args.owner c.requires.owner) refl
     _ (ap (λ r. r.span.first) c.get-node.ensures.found) (ap (λ n. n + 1) count) (omega (arith, few, count)) free)
 
@@ -37,8 +38,9 @@ pub returns : goal.returns
 returns c =
     let s = c.self.inside in
     let grown = rw c.in-Ok.is at c.add-added.ensures.added in
+    let later = rw c.in-Ok.is at c.add-added.ensures.changed in
     let ring : has c.self.inside.nodes.active c.args.owner.number ≡ marks_active (record_of c.self.inside.nodes.records c.args.owner.number).mark = c.get-node.ensures.ring ∙ ap (λ r. marks_active r.mark) c.get-node.ensures.found in
     rw (c.set.ensures, ← c.self.view_is)
-    (more_seen s.nodes s.arcs s.root s.room c.self.invariant c.add-added.new.self c.args.owner.number (arc_record c.args.owner.number c.args.target.number c.args.waits) grown c.add-added.ensures.kept
+    (more_seen s.nodes s.arcs s.root s.room c.self.invariant c.add-added.new.self c.args.owner.number (arc_record c.args.owner.number c.args.target.number c.args.waits) grown later c.add-added.ensures.newest c.add-added.ensures.kept
     (last_seen s.nodes s.arcs s.root s.room c.self.invariant _ c.self.view_is c.args.owner c.requires.owner) refl
     _ (ap longer c.get-node.ensures.found) ring)

@@ -25,4 +25,4 @@ loop-node-preserved c =
     c.append-owner.new.self c.append-owner.result (node_with c.node-item.result.label c.node-item.result.mark) c.append-owner.ensures.number (ap (λ s. s.graph.nodes) c.append-owner.ensures.added) refl
     (ap (λ s. s.room) c.append-owner.ensures.added)
     c.append_arcs.new.self c.next_number-first.result c.next_number-first.ensures.number (rw c.as_slice.ensures at c.append_arcs.ensures) (ap (λ s. s.graph.root) c.append-owner.ensures.added)
-    (ap (λ s. s.versions) c.append-owner.ensures.added) refl refl
+    (ap (λ s. s.versions) c.append-owner.ensures.added) (ap (λ s. s.newest) c.append-owner.ensures.added) refl refl

@@ -1,0 +1,9 @@
+use Rattle.dactl_arcs.proofs.Naming.{swap_names, swap_seen}
+use Rattle.dactl_arcs.proofs.named.NamedLists.swap.Goals as goal
+
+pub invariant_of-self : goal.invariant_of-self
+invariant_of-self c = swap_names _ _ _ c.self.invariant _ c.self.view_is c.args.from c.args.to _ _ c.requires.different c.requires.from_in_range c.requires.to_in_range c.index-one.ensures c.index-other.ensures
+
+pub returns-clause-arcs : goal.returns-clause-arcs
+returns-clause-arcs c =
+    swap_seen _ _ _ c.self.invariant _ c.self.view_is c.args.from c.args.to _ _ c.requires.different c.requires.from_in_range c.requires.to_in_range c.index-one.ensures c.index-other.ensures c.len.ensures.valid

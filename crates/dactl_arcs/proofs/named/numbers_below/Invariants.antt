@@ -1,0 +1,5 @@
+use Rattle.dactl_arcs.specs.Naming.{IsCounting}
+use Rattle.dactl_arcs.proofs.named.numbers_below.Given as goal
+
+abbrev pub invariant-loop-number : goal.invariant-loop-number
+invariant-loop-number l = IsCounting l.number l.all.items

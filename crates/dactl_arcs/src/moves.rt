@@ -1,0 +1,41 @@
+//! Pairs of numbers, each of which sends the first number to the second.
+
+ghost use Rattle.std.specs.Prelude.{◌≡◌, ◌<◌, ◌==◌, length, slice_set, if◌then◌else◌};
+ghost use Rattle.dactl_arcs.specs.Moves.{moved_to};
+ghost use Rattle.dactl_arcs.specs.Kept.{AreBelow};
+ghost use Rattle.dactl_arcs.specs.Stamps.{AreStamped};
+
+/// Where the pairs send a number: to the second number of the first pair that begins with it. A number
+/// that no pair begins with stays.
+pub fn moved_number(moves: &[(u32, u32)], number: u32) -> u32
+    ensures { result ≡ moved_to moves.now number }
+{
+    for pair in moves {
+        if pair.0 == number {
+            return pair.1;
+        }
+    }
+    number
+}
+
+// Gives the stamp to a slot, unless it is sent to itself.
+fn stamp_slot(slots: &mut [u32], from: u32, to: u32, stamp: u32)
+    requires { from < length slots.old }
+    ensures { slots.new ≡ (if to == from then slots.old else slice_set slots.old from stamp) }
+{
+    if to == from {
+        return;
+    }
+    slots[from as usize] = stamp;
+}
+
+/// Gives the stamp to each slot that the pairs send elsewhere.
+pub fn stamp_slots(slots: &mut [u32], moves: &[(u32, u32)], stamp: u32)
+    requires below { AreBelow (length slots.old) moves.now }
+    ensures { AreStamped moves.now stamp slots.old slots.new }
+{
+    for pair in moves {
+        let to = moved_number(moves, pair.0);
+        stamp_slot(slots, pair.0, to, stamp);
+    }
+}
