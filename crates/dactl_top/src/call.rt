@@ -38,33 +38,23 @@ pub fn dactl<R: Threads + Wait + Sync, S: Source, K: Sink, G: Gate + Sync>(
 ) -> Status
     requires { IsEmpty kept.old }
     // Something came of the call, for its cause; this is kept of it, and it was told.
-    ensures answered {
-        IsAnswered (call_of (map string_bytes words.now)
-            (source_change S.left S.faults source.old source.new)
-            (sink_change K.holds K.faults sink.old sink.new) kept.new result)
-    }
+    ensures answered { IsAnswered (call_of (map string_bytes words.now)
+        (source_change S.left S.faults source.old source.new)
+        (sink_change K.holds K.faults sink.old sink.new) kept.new result) }
     // What follows from it: the headline, that each answer comes wherever it is due, and why.
-    ensures headline {
-        IsOfRun result → IsRunOfText (call_of (map string_bytes words.now)
-            (source_change S.left S.faults source.old source.new)
-            (sink_change K.holds K.faults sink.old sink.new) kept.new result)
-    }
-    ensures exact {
-        IsOfText result → IsExact (call_of (map string_bytes words.now)
-            (source_change S.left S.faults source.old source.new)
-            (sink_change K.holds K.faults sink.old sink.new) kept.new result)
-    }
-    ensures caused {
-        IsCaused (call_of (map string_bytes words.now)
-            (source_change S.left S.faults source.old source.new)
-            (sink_change K.holds K.faults sink.old sink.new) kept.new result)
-    }
+    ensures headline { IsOfRun result → IsRunOfText (call_of (map string_bytes words.now)
+        (source_change S.left S.faults source.old source.new)
+        (sink_change K.holds K.faults sink.old sink.new) kept.new result) }
+    ensures exact { IsOfText result → IsExact (call_of (map string_bytes words.now)
+        (source_change S.left S.faults source.old source.new)
+        (sink_change K.holds K.faults sink.old sink.new) kept.new result) }
+    ensures caused { IsCaused (call_of (map string_bytes words.now)
+        (source_change S.left S.faults source.old source.new)
+        (sink_change K.holds K.faults sink.old sink.new) kept.new result) }
     // What is kept is so whatever the answer.
-    ensures keeps {
-        KeepsFaith (call_of (map string_bytes words.now)
-            (source_change S.left S.faults source.old source.new)
-            (sink_change K.holds K.faults sink.old sink.new) kept.new result)
-    }
+    ensures keeps { KeepsFaith (call_of (map string_bytes words.now)
+        (source_change S.left S.faults source.old source.new)
+        (sink_change K.holds K.faults sink.old sink.new) kept.new result) }
 {
     let outcome = answer_words(rt, alloc, words, source, gate, kept);
     conclude(sink, outcome, kept)

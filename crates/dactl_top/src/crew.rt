@@ -1,9 +1,13 @@
 //! The workers of a run, with all that they share.
 
-ghost use Rattle.std.specs.Prelude.{◌≡◌, ◌<◌, ◌≤◌, [], All, IfOk, length, map, vec_capacity};
+ghost use Rattle.std.specs.Prelude.{◌≡◌, ◌<◌, ◌≤◌, [], All, IfOk};
+ghost use Rattle.std.specs.Prelude.{length, map, vec_capacity};
 ghost use Rattle.dactl_queue.specs.Boards.{IsFresh as IsFreshHand};
-ghost use Rattle.dactl_shared.specs.Stores.{IsFresh, limits_of as store_limits, program_of, rejoined, workers_of};
-ghost use Rattle.dactl_top.specs.Preparing.{AreBack, IsCrew, IsCrewEnd, IsDone, IsIdle, IsNewBoard, IsRunnable, IsRunOf, numbers_of, worker_with};
+ghost use Rattle.dactl_shared.specs.Stores.{IsFresh, limits_of as store_limits, program_of};
+ghost use Rattle.dactl_shared.specs.Stores.{rejoined, workers_of};
+ghost use Rattle.dactl_top.specs.Preparing.{AreBack, IsCrew, IsCrewEnd, IsDone, IsIdle};
+ghost use Rattle.dactl_top.specs.Preparing.{IsNewBoard, IsRunnable, IsRunOf};
+ghost use Rattle.dactl_top.specs.Preparing.{numbers_of, worker_with};
 
 use crate::outcome::EndedRun;
 use dactl_decide::Deciders;
@@ -172,9 +176,7 @@ impl Crew {
             journal,
             end,
         } = state.finish();
-        let Some(ended) = end else {
-            unreachable!()
-        };
+        let Some(ended) = end else { unreachable!() };
         EndedRun {
             program,
             store,

@@ -1,23 +1,7 @@
 //! Texts at the limits of the language, and one step beyond.
 
-use crate::testing::expect;
+use crate::testing::{expect, repeated};
 use std::alloc::{AllocError, Global};
-
-// `front`, then `part` so many times, then `back`.
-fn repeated(
-    alloc: Global,
-    front: &str,
-    part: &str,
-    times: usize,
-    back: &str,
-) -> Result<String, AllocError> {
-    let mut text = String::from_str(alloc, front)?;
-    for _ in 0..times {
-        text.push_str(part)?;
-    }
-    text.push_str(back)?;
-    Ok(text)
-}
 
 #[test]
 fn repeated_parts_have_limits(rt: HostRuntime) -> Result<(), AllocError> {

@@ -33,11 +33,17 @@ pub enum Outcome {
     /// Memory was wanting.
     Memory,
     /// The text is no program, as the line tells.
-    Refused { refusal: Refusal, line: Vec<u8> },
+    Refused {
+        refusal: Refusal,
+        line: Vec<u8>,
+    },
     /// The text is this program, and was only to be checked.
     Checked(Program),
     /// The first graph does not fit, as the line tells.
-    Small { program: Program, line: Vec<u8> },
+    Small {
+        program: Program,
+        line: Vec<u8>,
+    },
     /// The program ran. Its trace is to be told or not, and printing takes the numbering.
     Ran {
         run: EndedRun,

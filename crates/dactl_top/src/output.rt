@@ -44,7 +44,7 @@ pub fn write_run<K: Sink>(
     requires { IsPrintable run.now numbering.old }
     ensures { (text : List ℕ) → IsGraphText run.now.program run.now.store.graph text
         → Writes (sink_change K.holds K.faults sink.old sink.new)
-            (run_text run.now trace text) result }
+        (run_text run.now trace text) result }
 {
     let journal = run.journal.as_slice();
     let entries = journal.len() as u32;

@@ -45,11 +45,7 @@ fn limits_of(settings: Settings) -> Limits
 }
 
 /// Takes all the memory of a run.
-pub fn prepare(
-    alloc: Global,
-    settings: Settings,
-    program: Program,
-) -> Result<Prepared, Unprepared>
+pub fn prepare(alloc: Global, settings: Settings, program: Program) -> Result<Prepared, Unprepared>
     requires limits { IsWithinLimits settings }
     requires valid { IsValid program }
     ensures ok { IfOk result (IsPrepared settings program) }

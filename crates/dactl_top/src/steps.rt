@@ -72,11 +72,13 @@ fn run<R: Threads + Wait + Sync, G: Gate + Sync>(
     ensures tellable { IsTellable result }
 {
     match prepare(alloc, settings, program) {
-        Ok(Prepared {
-            deciders,
-            crew,
-            numbering,
-        }) => Outcome::Ran {
+        Ok(
+            Prepared {
+                deciders,
+                crew,
+                numbering,
+            },
+        ) => Outcome::Ran {
             run: crew.run(rt, &deciders, gate),
             trace: settings.trace,
             numbering,
@@ -120,7 +122,7 @@ fn answer_settings<R: Threads + Wait + Sync, S: Source, G: Gate + Sync>(
     requires empty { text.old.items ≡ [] }
     ensures cause { (words : List (List ℕ)) → settings_of words ≡ Ok settings
         → HasCause (given words (source_change S.left S.faults source.old source.new)
-            (Some settings) text.new.items) result }
+        (Some settings) text.new.items) result }
     ensures tellable { IsTellable result }
 {
     match take_text(alloc, settings, source, text) {

@@ -4,7 +4,8 @@ ghost use Rattle.std.specs.Prelude.{◌≡◌, ℕ, List, Some};
 ghost use Rattle.dactl_print.specs.Lines.{IsGraphText};
 ghost use Rattle.dactl_top.specs.Calls.{HasNothing};
 ghost use Rattle.dactl_top.specs.Devices.{sink_change};
-ghost use Rattle.dactl_top.specs.Outcomes.{Gives, IsKept, IsTold, SameGiven, run_text, status_of_end};
+ghost use Rattle.dactl_top.specs.Outcomes.{Gives, IsKept, IsTold, SameGiven};
+ghost use Rattle.dactl_top.specs.Outcomes.{run_text, status_of_end};
 ghost use Rattle.dactl_top.specs.Preparing.{IsPrintable, IsTellable};
 
 use crate::kept::Kept;
@@ -37,16 +38,11 @@ fn give<K: Sink>(sink: &mut K, line: &[u8], wanted: Status) -> Status
 }
 
 // Writes the output of a run: the answer that tells its end, or WriteFault where the sink fails.
-fn give_run<K: Sink>(
-    sink: &mut K,
-    run: &EndedRun,
-    trace: bool,
-    numbering: &mut Numbering,
-) -> Status
+fn give_run<K: Sink>(sink: &mut K, run: &EndedRun, trace: bool, numbering: &mut Numbering) -> Status
     requires { IsPrintable run.now numbering.old }
     ensures { (text : List ℕ) → IsGraphText run.now.program run.now.store.graph text
         → Gives (sink_change K.holds K.faults sink.old sink.new) (run_text run.now trace text)
-            (status_of_end run.now.ended) result }
+        (status_of_end run.now.ended) result }
 {
     match write_run(run, trace, numbering, sink) {
         Ok(()) => status_of(run.ended),
@@ -57,11 +53,11 @@ fn give_run<K: Sink>(
 // Keeps a run.
 fn keep_run(run: EndedRun, kept: &mut Kept)
     ensures { kept.new ≡ record kept.old {
-        program = Some run.program;
-        journal = run.journal;
-        end = Some run.ended;
-        reports = run.reports;
-        left = run.left
+      program = Some run.program;
+      journal = run.journal;
+      end = Some run.ended;
+      reports = run.reports;
+      left = run.left;
     } }
 {
     let EndedRun {

@@ -64,6 +64,22 @@ pub fn words_of(alloc: Global, words: &str) -> Result<Vec<String>, AllocError> {
     Ok(given)
 }
 
+/// `front`, then `part` so many times, then `back`.
+pub fn repeated(
+    alloc: Global,
+    front: &str,
+    part: &str,
+    times: usize,
+    back: &str,
+) -> Result<String, AllocError> {
+    let mut text = String::from_str(alloc, front)?;
+    for _ in 0..times {
+        text.push_str(part)?;
+    }
+    text.push_str(back)?;
+    Ok(text)
+}
+
 /// What a call answered and kept, and what its sink holds.
 #[derive(Drop)]
 pub struct Answered {

@@ -1,9 +1,10 @@
 //! Runs by several workers, and what their reports add up to.
 
-use crate::testing::{Answered, LOOP, called, called_at};
+use crate::testing::{Answered, LOOP, called, called_at, called_over, repeated};
+use dactl_base::memory::{MemorySink, MemorySource};
 use dactl_model::graph::Entry;
 use dactl_workers::{Gate, WorkerReport};
-use std::alloc::AllocError;
+use std::alloc::{AllocError, Global};
 use std::sync::atomic::{AtomicBool, AtomicU64, Ordering};
 
 /// The numbers of some reports, added up.
@@ -33,7 +34,10 @@ fn sums_of(reports: &[WorkerReport]) -> Sums {
 
 // How many of the entries are by the worker.
 fn entries_by(journal: &[Entry], worker: u8) -> u64 {
-    journal.iter().filter(|entry| entry.worker == worker).count() as u64
+    journal
+        .iter()
+        .filter(|entry| entry.worker == worker)
+        .count() as u64
 }
 
 // Whether each worker has its report at its place, with as many commits as it has entries.
@@ -67,14 +71,33 @@ fn samples_are_added_by_any_workers(rt: HostRuntime) -> Result<(), AllocError> {
         ("--sample|4|--workers|1", 1, "normal 17\n@1 6\n"),
         ("--sample|4", 4, "normal 17\n@1 6\n"),
         ("--sample|64|--workers|16", 16, "normal 317\n@1 2016\n"),
-        ("--sample|5000|--workers|1", 1, "normal 24997\n@1 12497500\n"),
-        ("--sample|5000|--workers|2", 2, "normal 24997\n@1 12497500\n"),
-        ("--sample|5000|--workers|4", 4, "normal 24997\n@1 12497500\n"),
-        ("--sample|5000|--workers|16", 16, "normal 24997\n@1 12497500\n"),
+        (
+            "--sample|5000|--workers|1",
+            1,
+            "normal 24997\n@1 12497500\n",
+        ),
+        (
+            "--sample|5000|--workers|2",
+            2,
+            "normal 24997\n@1 12497500\n",
+        ),
+        (
+            "--sample|5000|--workers|4",
+            4,
+            "normal 24997\n@1 12497500\n",
+        ),
+        (
+            "--sample|5000|--workers|16",
+            16,
+            "normal 24997\n@1 12497500\n",
+        ),
     ] {
         let answered = called(&rt, rt.alloc(), words, "")?;
         assert!(rt; answered.is(0, output.as_bytes()), "{words}");
-        assert!(rt; has_reports(&answered, workers) && adds_up(&answered), "{words}");
+        assert!(rt;
+            has_reports(&answered, workers) && adds_up(&answered),
+            "{words}"
+        );
     }
     Ok(())
 }
@@ -82,14 +105,16 @@ fn samples_are_added_by_any_workers(rt: HostRuntime) -> Result<(), AllocError> {
 // Whether all 16 nodes that were offered came to the board.
 fn uses_the_board(answered: &Answered) -> bool {
     let sums = sums_of(answered.kept.reports.as_slice());
-    sums.offered == 16
-        && sums.refused == 0
-        && sums.taken.wrapping_add(answered.kept.left) == 16
+    sums.offered == 16 && sums.refused == 0 && sums.taken.wrapping_add(answered.kept.left) == 16
 }
 
 #[test]
 fn woken_nodes_go_to_the_board(rt: HostRuntime) -> Result<(), AllocError> {
-    for words in ["--sample|4", "--sample|4|--workers|1", "--sample|4|--workers|16"] {
+    for words in [
+        "--sample|4",
+        "--sample|4|--workers|1",
+        "--sample|4|--workers|16",
+    ] {
         let answered = called(&rt, rt.alloc(), words, "")?;
         assert!(rt; uses_the_board(&answered), "{words}");
     }
@@ -106,7 +131,10 @@ fn runs_that_do_not_end_normally_have_reports(rt: HostRuntime) -> Result<(), All
         ("--nodes|0", 0),
     ] {
         let answered = called(&rt, rt.alloc(), words, LOOP)?;
-        assert!(rt; has_reports(&answered, workers) && adds_up(&answered), "{words}");
+        assert!(rt;
+            has_reports(&answered, workers) && adds_up(&answered),
+            "{words}"
+        );
     }
     Ok(())
 }
@@ -178,11 +206,54 @@ fn passed_the_gate(answered: &Answered, meeting: &Meeting) -> bool {
 // No commit comes before each worker is about to make one, so each has a thread of its own.
 #[test]
 fn workers_have_threads_of_their_own(rt: HostRuntime) -> Result<(), AllocError> {
-    for (words, workers) in [("--sample|64|--workers|2", 2), ("--sample|64|--workers|4", 4)] {
+    for (words, workers) in [
+        ("--sample|64|--workers|2", 2),
+        ("--sample|64|--workers|4", 4),
+    ] {
         let meeting = Meeting::new(workers);
         let answered = called_at(&rt, rt.alloc(), words, "", &meeting)?;
         assert!(rt; answered.is(0, b"normal 317\n@1 2016\n"), "{words}");
         assert!(rt; passed_the_gate(&answered, &meeting), "{words}");
     }
+    Ok(())
+}
+
+// A call whose contractum is a tree of four levels, of 1, 16, 256 and 4,096 active nodes that no rule matches.
+fn bush(alloc: Global) -> Result<String, AllocError> {
+    let twig = repeated(alloc, "*T[", "*T ", 16, "] ")?;
+    let branch = repeated(alloc, "*T[", twig.as_str(), 16, "] ")?;
+    let front = "MODULE M; SYMBOL REWRITABLE Go; SYMBOL CREATABLE T; RULE Go => *T[";
+    let back = "]; INITIAL => *Go; ENDMODULE M;";
+    repeated(alloc, front, branch.as_str(), 16, back)
+}
+
+// Whether the board was full after so many nodes, and handed the others back.
+fn was_full(answered: &Answered) -> bool {
+    let sums = sums_of(answered.kept.reports.as_slice());
+    sums.commits == 4_370 && sums.offered == 4_369 && sums.refused == 273 && sums.taken == 4_096
+}
+
+// Whether no commit was refused, and nothing is left.
+fn was_alone(answered: &Answered) -> bool {
+    for report in answered.kept.reports.as_slice() {
+        if report.stale() != 0 || report.passive() != 0 {
+            return false;
+        }
+    }
+    answered.kept.left == 0
+}
+
+// Nodes that the board hands back are found as active ones.
+#[test]
+fn a_full_board_hands_nodes_back(rt: HostRuntime) -> Result<(), AllocError> {
+    let text = bush(rt.alloc())?;
+    let bytes = Vec::from_slice(rt.alloc(), text.as_bytes())?;
+    let source = MemorySource::new(bytes, 4_096, Vec::new(rt.alloc()));
+    let sink = MemorySink::new(rt.alloc(), 200_000, 4_096, Vec::new(rt.alloc()))?;
+    let answered = called_over(&rt, rt.alloc(), "--workers|1", source, sink)?;
+    assert!(rt;
+        answered.status.code() == 0 && answered.sink.held().starts_with(b"normal 4370\n@1 T[")
+    );
+    assert!(rt; was_full(&answered) && was_alone(&answered));
     Ok(())
 }

@@ -55,9 +55,9 @@ loop-worker-preserved c =
     let offered3 : p.result.report.offered ≡ w.report.offered = ap (λ (r : WorkerReport). r.offered) report in
     let taken3 : p.result.report.taken ≡ w.report.taken = ap (λ (r : WorkerReport). r.taken) report in
     let puts : length (puts_of c.rejoin-in-loop-worker.new.self) ≡ length (puts_of c.loop-worker.board) + length (put_of w.hand) =
-        ap length board.puts ∙ (length-append (puts_of c.loop-worker.board) (put_of p.result.hand) ∙ ap (λ (h : RuledHand). length (puts_of c.loop-worker.board) + length (put_of h)) hand) in
+    ap length board.puts ∙ (length-append (puts_of c.loop-worker.board) (put_of p.result.hand) ∙ ap (λ (h : RuledHand). length (puts_of c.loop-worker.board) + length (put_of h)) hand) in
     let takes : length (takes_of c.rejoin-in-loop-worker.new.self) ≡ length (takes_of c.loop-worker.board) + length (taken_of w.hand) =
-        ap length board.takes ∙ (length-append (takes_of c.loop-worker.board) (taken_of p.result.hand) ∙ ap (λ (h : RuledHand). length (takes_of c.loop-worker.board) + length (taken_of h)) hand) in
+    ap length board.takes ∙ (length-append (takes_of c.loop-worker.board) (taken_of p.result.hand) ∙ ap (λ (h : RuledHand). length (takes_of c.loop-worker.board) + length (taken_of h)) hand) in
     let iseats = i.seats in
     let ilong = i.long in
     let iroom = i.room in
