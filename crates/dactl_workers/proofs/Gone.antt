@@ -73,9 +73,9 @@ module _ {H : Type 0} (put taken : H → List NodeId) (back : H → ℕ) (s : Sh
       chosen
 
   -- a commit, and its offers
-  pub committed_gone : (w : Worker H) (e : WorkerSeat) (f : Option Observed) (l : NodeList) (known : ℕ) (woken : List NodeId) (hand : H) (refused : ℕ) → HasCommitted s w.seat e woken
-      → IsOffered put taken back w.hand hand woken refused → Gone w (with_offers (reseated w e f l known) hand (length woken) refused)
-  committed_gone w e f l known woken hand refused c o = let k = w.seat.number in let x : Entry = entry_of k c.event in record {
+  pub committed_gone : (w : Worker H) (e : WorkerSeat) (f : Option Observed) (l : NodeList) (known : ℕ) (woken : List NodeId) (hand : H) (now refused : ℕ) → HasCommitted s w.seat e woken
+      → IsOffered put taken back w.hand hand woken refused → Gone w (with_offers (reseated w e f l known) hand now (length woken) refused)
+  committed_gone w e f l known woken hand now refused c o = let k = w.seat.number in let x : Entry = entry_of k c.event in record {
     number = c.number;
     done = committed_done (program_of s) k (account w) (seen_of e) c.front x woken o.puts (put hand) (taken hand) (back hand) (w.report.commits + 1) (w.report.offered + length woken) (w.report.refused + refused) w.report.taken e.stale e.passive refused
         c.entry c.later (ap (λ (z : ℕ). by_worker z (seen_of e)) (sym c.number) ∙ c.mine) refl c.acts o.is_put o.among o.even o.is_back o.is_taken refl refl refl refl c.counts.0 c.counts.1;

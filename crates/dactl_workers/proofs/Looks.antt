@@ -1,10 +1,10 @@
 -- What a turn that adds no entry tells the seat that took it.
-use Rattle.std.proofs.Common.{◌≡◌, ◌≢◌, inl, inr, ⊎_elim, ℕ, ◌+◌, ◌<◌, ◌≤◌, List, [], ◌∷◌, ◌++◌, map, refl, sym, ap, ◌∙◌, subst, append-nil, append_assoc, length, length-append, Option, Some, None, All, Contains, MatchBool, IsSomeAnd, Bool, true, false, nat_lt, max, lt_of_not-le, arith}
+use Rattle.std.proofs.Common.{◌≡◌, ◌≢◌, inl, inr, ⊎_elim, ℕ, ◌+◌, ◌<◌, ◌≤◌, List, [], ◌∷◌, ◌++◌, map, refl, sym, ap, ◌∙◌, subst, append-nil, append_assoc, length, length-append, Option, Some, None, All, Contains, MatchBool, IsSomeAnd, Bool, true, false, nat_lt, max, slice_get, lt_of_not-le, arith}
 use mathlib.Core.Logic.{dite}
 use native.Mathlib.Decide.{dec_le}
 use Rattle.std.proofs.lemmas.List.Elements.{All-weaker, All-contains, All-map}
 use Rattle.std.proofs.lemmas.Bool.{ltb-true, ltb-false}
-use Rattle.std.proofs.lemmas.Option.{slice_get_cases}
+use Rattle.std.proofs.lemmas.Option.{slice_get_cases, slice_get_within, get_or_from_slice_get}
 use Rattle.dactl_model.specs.declared.graph.NodeId.{NodeId}
 use Rattle.dactl_model.specs.declared.graph.Graph.{Graph}
 use Rattle.dactl_model.specs.declared.graph.Node.{Node}
@@ -38,7 +38,7 @@ use Rattle.dactl_shared.specs.declared.store.WorkerSeat.{WorkerSeat}
 use Rattle.dactl_shared.specs.Stores.{WorksFor, gives_of, seen_of, mine_of, program_of, limits_of, IsStateAt, IsNodeAfter, Looks}
 use Rattle.dactl_shared.proofs.Turns.{node_found}
 use Rattle.dactl_workers.specs.Work.{HasSeenEnd}
-use Rattle.dactl_workers.specs.Turns.{AreNodesAfter, IsActiveAfter, IsReadSince, HasTargetsAfter, HasLooked}
+use Rattle.dactl_workers.specs.Turns.{AreNodesAfter, IsKnownWith, IsActiveAfter, IsReadSince, HasTargetsAfter, HasLooked}
 
 pub starts_trans : {A : Type 0} (c b a : List A) → StartsWith c b → StartsWith b a → StartsWith c a
 starts_trans c b a p q = (q.0 ++ p.0, p.1 ∙ (ap (λ z. z ++ p.0) q.1 ∙ append_assoc a q.0 p.0))
@@ -121,14 +121,33 @@ counted_nodes s old new count l = λ n lt. found_there s old new l n (let e = l.
 pub counted_all : (s : SharedStore) (old new : WorkerSeat) (count : ℕ) (n : NodeId) → Looks s old new (λ r. count ≡ length r.held.graph.nodes) → IsNodeAfter (program_of s) (seen_of old) n → n.number < count
 counted_all s old new count n l there = let has = node_found (program_of s) (limits_of s) l.found (gives_of old) l.run n l.is l.later there in let e = l.tells in omega arith
 
+max_below : (a b k : ℕ) → k < max a b → a ≤ k → k < b
+max_below a b k lt le = grind arith
+
 -- one node more is known to be there, and with it all before it
 pub known_more : (p : Program) (es : List Entry) (known : ℕ) (n : NodeId) → AreNodesAfter p es known → IsNodeAfter p es n → AreNodesAfter p es (max known (n.number + 1))
 known_more p es known n all there m lt = dite (dec_le known m.number)
     (λ le. (there.0, there.1, let most = max_below known (n.number + 1) m.number lt le in omega arith))
     (λ not. all m (lt_of_not-le not))
-  where
-    max_below : (a b k : ℕ) → k < max a b → a ≤ k → k < b
-    max_below a b k lt le = grind arith
+
+-- the nodes that were told are there, and with them all before them
+pub known_all : (p : Program) (es : List Entry) (known : ℕ) (nodes : List NodeId) (count : ℕ) → AreNodesAfter p es known → ((n : NodeId) → Contains nodes n → IsNodeAfter p es n) → IsKnownWith known nodes count → AreNodesAfter p es count
+known_all p es known nodes count all there told m lt = ⊎_elim
+    (λ (below : m.number < known). all m below)
+    (λ (node : (n : NodeId) × Contains nodes n × (m.number ≤ n.number)). let it = there node.0 node.1 in (it.0, it.1, let le = node.2 in let has = it.2 in omega arith))
+    (told m.number lt)
+
+pub contained : {A : Type 0} (xs : List A) (i : ℕ) (x : A) → slice_get xs i ≡ Some x → Contains xs x
+contained xs i x is = (i, slice_get_within xs i x is, get_or_from_slice_get xs i x x is)
+
+pub known_same : (known : ℕ) (nodes : List NodeId) → IsKnownWith known nodes known
+known_same known nodes m lt = inl lt
+
+-- a node more
+pub known_step : (known : ℕ) (nodes : List NodeId) (now : ℕ) (n : NodeId) → IsKnownWith known nodes now → Contains nodes n → IsKnownWith known nodes (max now (n.number + 1))
+known_step known nodes now n told among m lt = dite (dec_le now m)
+    (λ le. inr (n, among, let most = max_below now (n.number + 1) m lt le in omega arith))
+    (λ not. told m (lt_of_not-le not))
 
 -- a node that is active is there
 pub active_there : (g : Graph) (n : NodeId) → IsActive g n → HasNode g n

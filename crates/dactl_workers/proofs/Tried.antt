@@ -1,9 +1,10 @@
 -- A node that was tried: what the answer to its commit tells.
-use Rattle.std.proofs.Common.{◌≡◌, inl, inr, ⊎_elim, ℕ, ◌+◌, ◌<◌, ◌≤◌, List, [], ◌∷◌, ◌++◌, take, refl, sym, ap, ◌∙◌, subst, append-nil, length, eq-eqb, ne_eqb, Some, None, All, arith}
+use Rattle.std.proofs.Common.{◌≡◌, inl, inr, ⊎_elim, ℕ, ◌+◌, ◌<◌, ◌≤◌, List, [], ◌∷◌, ◌++◌, take, refl, sym, ap, ◌∙◌, subst, append-nil, length, eq-eqb, ne_eqb, Option, Some, None, All, Bool, true, false, not, ◌&&◌, ◌||◌, ◌==◌, slice_get, if◌then◌else◌, arith}
 use mathlib.Core.Logic.{dite}
 use native.Mathlib.Decide.{ℕ_discrete}
 use Rattle.std.proofs.lemmas.List.{take_all}
 use Rattle.std.proofs.lemmas.Option.{slice_get_within}
+use Rattle.std.proofs.lemmas.List.Elements.{All-weaker, All-cons}
 use Rattle.dactl_model.specs.declared.graph.NodeId.{NodeId}
 use Rattle.dactl_model.specs.declared.graph.Node.{Node}
 use Rattle.dactl_model.specs.declared.graph.Graph.{Graph}
@@ -18,7 +19,7 @@ use Rattle.dactl_model.specs.declared.reading.Reading.{Reading}
 use Rattle.dactl_model.specs.Matching.{IsActive}
 use Rattle.dactl_model.specs.Firing.{start_of}
 use Rattle.dactl_model.specs.Steps.{Reduction}
-use Rattle.dactl_model.specs.Acts.{node_of_event, acts_from, HasActs}
+use Rattle.dactl_model.specs.Acts.{node_of_event, marks_active, active_in, acts_from, HasActs}
 use Rattle.dactl_model.specs.Versions.{IsVersion}
 use Rattle.dactl_model.proofs.Pairs.{All-slice_get}
 use Rattle.dactl_model.proofs.Reductions.{same_reduction}
@@ -55,6 +56,17 @@ acts_few : (before : Graph) (n : NodeId) (k : ℕ) (nodes : List Node) → lengt
 acts_few before n k [] = omega arith
 acts_few before n k (node ∷ nodes) = let h = acts_few before n (k + 1) nodes in grind arith
 
+-- a node that was made active is one of the nodes
+acts_below : (before : Graph) (n : NodeId) (k : ℕ) (nodes : List Node) → All (λ (m : NodeId). m.number < k + length nodes) (acts_from before n k nodes)
+acts_below before n k [] = λ i d lt. absurd (omega arith)
+acts_below before n k (node ∷ nodes) = let below : NodeId → Type 0 = λ (m : NodeId). m.number < k + length (node ∷ nodes) in
+    let rest : All below (acts_from before n (k + 1) nodes) = All-weaker (λ (m : NodeId). m.number < (k + 1) + length nodes) below (λ m lt. omega arith) (acts_from before n (k + 1) nodes) (acts_below before n (k + 1) nodes) in
+    either below (marks_active node.mark && (not (active_in (slice_get before.nodes k)) || (k == n.number))) (record { number = k }) (acts_from before n (k + 1) nodes) (let at : k < k + length (node ∷ nodes) = omega arith in at) rest
+  where
+    either : (P : NodeId → Type 0) (b : Bool) (m : NodeId) (ms : List NodeId) → P m → All P ms → All P (if b then m ∷ ms else ms)
+    either P true m ms here all = All-cons P m ms here all
+    either P false m ms here all = all
+
 -- the seat before a node was tried, after its readings and after its commit
 pub record Tried (s : SharedStore) (w g e : WorkerSeat) (event : Event) (rs : List Reading) (answer : Answer) (woken : List NodeId) : Type 0 where
   pub looked : HasLooked s w g
@@ -82,10 +94,10 @@ module _ (s : SharedStore) (w g e : WorkerSeat) (event : Event) (rs : List Readi
   seen_at answer t = ap entries_of t.step.after ∙ entries_of-snoc t.step.found (give (entry_by answer g.number event) t.step.next.full)
 
   -- nodes that were there before a commit are there after it
-  pub nodes_tried : (answer : Answer) → Trial answer → (n : NodeId) → IsNodeAfter p (seen_of w) n → IsNodeAfter p (seen_of e) n
+  pub nodes_tried : (answer : Answer) → Trial answer → (n : NodeId) → IsNodeAfter p (seen_of g) n → IsNodeAfter p (seen_of e) n
   nodes_tried answer t n there = let given = give (entry_by answer g.number event) t.step.next.full in let l = t.step.later in
       let on : StartsWith (gives_of e) (gives_of g) = starts_trans (gives_of e) t.step.found (gives_of g) (given ∷ [], t.step.after) l in
-      node_stays p (limits_of s) (gives_of e) (gives_of g) t.step.next n t.step.stands on (t.looked.nodes n there)
+      node_stays p (limits_of s) (gives_of e) (gives_of g) t.step.next n t.step.stands on there
 
   -- a commit without an entry only looks
   only_looked : (answer : Answer) → Trial answer → entry_by answer g.number event ≡ None → HasLooked s w e
@@ -94,7 +106,7 @@ module _ (s : SharedStore) (w g e : WorkerSeat) (event : Event) (rs : List Readi
     number = t.number ∙ t.looked.number;
     later = (on.0, seen ∙ on.1);
     mine = t.mine ∙ (ap (λ z. mine_of g ++ listed z) none ∙ (append-nil (mine_of g) ∙ t.looked.mine));
-    nodes = nodes_tried answer t;
+    nodes = λ n there. nodes_tried answer t n (t.looked.nodes n there);
   }
 
   seen_found : (answer : Answer) (t : Trial answer) → entry_by answer g.number event ≡ None → entries_of t.step.found ≡ seen_of e
@@ -136,6 +148,12 @@ module _ (s : SharedStore) (w g e : WorkerSeat) (event : Event) (rs : List Readi
       let nodes : length acts.after.nodes ≡ length t.step.next.held.graph.nodes = ap (λ (z : Graph). length z.nodes) same in let within = stands.course.store.nodes in
       let room : t.step.next.held.room.nodes ≡ (limits_of s).nodes = ap (λ (z : Room). z.nodes) stands.course.room ∙ ap (λ (z : Limits). z.nodes) stands.limited in omega arith
 
+  -- and each of them is there
+  woken_there : (answer : Answer) (t : Trial answer) → LastActs p (seen_of e) woken → All (IsNodeAfter p (seen_of e)) woken
+  woken_there answer t acts = let k = length (seen_of e) in let whole : take k (seen_of e) ≡ seen_of e = take_all k (seen_of e) (omega arith) in let run = subst (λ (z : List Entry). Reduction p (start_of p.start) z acts.after) whole acts.reduced_on in
+      subst (All (IsNodeAfter p (seen_of e))) (sym acts.acts) (All-weaker (λ (m : NodeId). m.number < 0 + length acts.after.nodes) (IsNodeAfter p (seen_of e)) (λ m lt. (acts.after, run, let l = lt in omega arith))
+      (acts_from acts.before (node_of_event acts.entry.event) 0 acts.after.nodes) (acts_below acts.before (node_of_event acts.entry.event) 0 acts.after.nodes))
+
   pub tells : (n : NodeId) (answer : Answer) → node_of_event event ≡ n → Trial answer → Tells s n w e woken answer
   tells n Committed is t = let c = t.step.commits in let step = c.2 in let stands = t.step.stands in let number = t.looked.number in
       let acts : LastActs p (seen_of e) woken = subst (λ (z : Program × List Entry). HasActs z.0 z.1 (length z.1) woken) (λ i. (t.step.is.program i, stands.entries i)) step.acts in
@@ -150,6 +168,7 @@ module _ (s : SharedStore) (w g e : WorkerSeat) (event : Event) (rs : List Readi
         counts = (t.stale ∙ t.counts.0, t.passive ∙ t.counts.1);
         few_entries = omega arith;
         few_nodes = few_woken Committed t acts;
+        there = woken_there Committed t acts;
       }
   tells n (Stale m was now) is t = let c = t.step.commits in let longer = grown_longer (Stale m was now) t c.1.0 now c.1.3 in let all : length (entries_of t.step.found) ≡ length (seen_of e) = ap length (seen_found (Stale m was now) t refl) in
       let most = raised_most g.stale in let a = t.stale in let b = t.counts.0 in

@@ -1,5 +1,5 @@
 -- What one turn of a worker keeps, and what its parts tell one another. Only private functions cite these words.
-use Rattle.std.specs.Prelude.{◌≡◌, ◌⊎◌, ℕ, ◌+◌, ◌*◌, ◌<◌, ◌≤◌, List, [], ◌∷◌, ◌++◌, length, Contains, IsSomeAnd, Option, Some}
+use Rattle.std.specs.Prelude.{◌≡◌, ◌⊎◌, ℕ, ◌+◌, ◌*◌, ◌<◌, ◌≤◌, List, [], ◌∷◌, ◌++◌, length, All, Contains, IsSomeAnd, Option, Some}
 use Rattle.dactl_model.specs.declared.graph.NodeId.{NodeId}
 use Rattle.dactl_model.specs.declared.graph.Graph.{Graph}
 use Rattle.dactl_model.specs.declared.graph.Event.{Event}
@@ -25,6 +25,10 @@ use Rattle.dactl_workers.specs.Work.{HasSeenEnd, account_of}
 -- the nodes with numbers below this are there after these entries
 abbrev pub AreNodesAfter : Program → List Entry → ℕ → Type 0
 AreNodesAfter p entries known = (n : NodeId) → n.number < known → IsNodeAfter p entries n
+
+-- all that is below the count is below what was known before, or no greater than one of these nodes
+abbrev pub IsKnownWith : ℕ → List NodeId → ℕ → Type 0
+IsKnownWith known nodes count = (m : ℕ) → m < count → (m < known) ⊎ ((n : NodeId) × Contains nodes n × (m ≤ n.number))
 
 -- a node is active after these entries
 abbrev pub IsActiveAfter : Program → List Entry → NodeId → Type 0
@@ -61,6 +65,7 @@ pub record HasCommitted (store : SharedStore) (old new : WorkerSeat) (woken : Li
   pub counts : SameCounts old new
   pub few_entries : length (seen_of new) ≤ (limits_of store).budget
   pub few_nodes : length woken ≤ (limits_of store).nodes
+  pub there : All (IsNodeAfter (program_of store) (seen_of new)) woken
 
 -- what the answer tells of the seat before the node n was tried and after: a stale commit shows that more was seen since,
 -- and so does a passive one of a node that was active; an end that was answered was seen
@@ -118,8 +123,9 @@ TriesTaken taken s old new result =
     (n : NodeId) → taken new.hand ≡ taken old.hand ++ n ∷ [] → IsNodeAfter (program_of s) (seen_of old.seat) n → result ≡ Some n
 
 -- the worker after a commit and its offers
-abbrev pub with_offers : {H : Type 0} → Worker H → H → ℕ → ℕ → Worker H
-with_offers w hand offers refused = record w {
+abbrev pub with_offers : {H : Type 0} → Worker H → H → ℕ → ℕ → ℕ → Worker H
+with_offers w hand known offers refused = record w {
   hand = hand;
+  known = known;
   report = record w.report { commits = w.report.commits + 1; offered = w.report.offered + offers; refused = w.report.refused + refused };
 }

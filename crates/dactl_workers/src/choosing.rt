@@ -1,28 +1,23 @@
 //! Which node a worker tries next.
 
-ghost use Rattle.std.specs.Prelude.{◌≡◌, ◌+◌, ◌∷◌, [], ◌++◌, IfSome, MatchBool, MatchOption, max};
+ghost use Rattle.std.specs.Prelude.{◌≡◌, ◌+◌, ◌∷◌, [], ◌++◌, IfSome, MatchBool, MatchOption};
 ghost use Rattle.dactl_shared.specs.Stores.{seen_of, program_of, SameCounts, IsNodeAfter};
 ghost use Rattle.dactl_workers.specs.Work.{HasSeenEnd};
 ghost use Rattle.dactl_workers.specs.Turns.{IsSeated, IsCounted, HasLooked, HasGone, IsChosen, IsActiveAfter, TriesTaken};
 
+use crate::knowing::known_with;
 use crate::worker::Worker;
 use dactl_model::graph::NodeId;
 use dactl_queue::Board;
 use dactl_shared::SharedStore;
 use std::sync::Wait;
 
-/// How many nodes are known where this node is there too: node numbers have no gaps.
-fn known_with(known: u64, node: NodeId) -> u64
-    ensures { result ≡ max known (node.number + 1) }
-{
-    known.max(u64::from(node.number) + 1)
-}
-
 impl<H> Worker<H> {
     /// A node of the board, if it gives one.
     fn take<B: Board<Hand = H>, R: Wait>(&mut self, rt: &R, board: &B) -> Option<NodeId>
         requires { B.fits board.now self.old.hand }
-        ensures same { self.new ≡ record self.old { hand = self.new.hand; report = self.new.report } }
+        ensures same { self.new
+            ≡ record self.old { hand = self.new.hand; report = self.new.report } }
         ensures hand { B.fits board.now self.new.hand }
         ensures put { B.put self.new.hand ≡ B.put self.old.hand }
         ensures back { B.back self.new.hand ≡ B.back self.old.hand }

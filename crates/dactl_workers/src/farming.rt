@@ -14,8 +14,9 @@ use std::sync::Wait;
 use std::thread;
 use std::thread::Threads;
 
-/// Runs the workers, each in a thread of its own, until each has seen an end of the run. The
-/// workers stand in the slice as before. Takes no memory.
+/// Runs the workers, each in a thread of its own where one can be started, until the seat of each
+/// has seen an end of the run. Each worker keeps its place in the slice. Takes no memory. It may
+/// wait for the store, the board and the threads.
 pub fn farm<B: Board + Sync, G: Gate + Sync, R: Threads + Wait + Sync>(
     rt: &R,
     store: &SharedStore,
@@ -28,7 +29,8 @@ where
     B::Hand: Send,
     requires some { 0 < length workers.old }
     requires deciders { deciders.now.program ≡ program_of store.now }
-    requires ready { All (IsReady (B.fits board.now) B.back store.now deciders.now.widest) workers.old }
+    requires ready { All (IsReady (B.fits board.now) B.back store.now deciders.now.widest)
+        workers.old }
     ensures each { AllZip (HasWorked (B.fits board.now) B.put B.taken B.back store.now)
         workers.old workers.new }
 {

@@ -6,6 +6,7 @@
 mod choosing;
 mod farming;
 mod gate;
+mod knowing;
 mod offering;
 mod probing;
 mod report;
@@ -16,3 +17,6 @@ pub use farming::farm;
 pub use gate::{Gate, OpenGate};
 pub use report::WorkerReport;
 pub use worker::{Worker, WorkerParts};
+
+#[cfg(test)]
+mod tests;

@@ -1,9 +1,10 @@
 //! How woken nodes go to the board.
 
-ghost use Rattle.std.specs.Prelude.{◌≡◌, ℕ, ◌+◌, ◌*◌, ◌-◌, ◌^◌, ◌<◌, ◌≤◌, [], ◌∷◌, length};
-ghost use Rattle.dactl_shared.specs.Stores.{mine_of, limits_of};
-ghost use Rattle.dactl_workers.specs.Turns.{IsCounted, IsOffered, with_offers};
+ghost use Rattle.std.specs.Prelude.{◌≡◌, ℕ, ◌+◌, ◌*◌, ◌-◌, ◌^◌, ◌<◌, ◌≤◌, [], ◌∷◌, All, length};
+ghost use Rattle.dactl_shared.specs.Stores.{seen_of, mine_of, program_of, limits_of, IsNodeAfter};
+ghost use Rattle.dactl_workers.specs.Turns.{IsSeated, IsCounted, IsOffered, with_offers};
 
+use crate::knowing::known_with_last;
 use crate::worker::Worker;
 use dactl_model::graph::NodeId;
 use dactl_queue::Board;
@@ -53,19 +54,24 @@ impl<H> Worker<H> {
         store: &SharedStore,
         board: &B,
     )
+        requires seated { IsSeated store.now self.old }
         requires counted { IsCounted (B.fits board.now) B.back store.now self.old }
+        requires there { All (IsNodeAfter (program_of store.now) (seen_of self.old.seat))
+            self.old.woken.list }
         requires one_more { self.old.report.commits + 1 ≤ length (mine_of self.old.seat) }
         requires entries { length (mine_of self.old.seat) ≤ (limits_of store.now).budget }
         requires nodes { length self.old.woken.list ≤ (limits_of store.now).nodes }
+        ensures seated { IsSeated store.now self.new }
         ensures counted { IsCounted (B.fits board.now) B.back store.now self.new }
         ensures offered { (refused : ℕ)
             × IsOffered B.put B.taken B.back
             self.old.hand self.new.hand self.old.woken.list refused
-            × (self.new ≡ with_offers self.old self.new.hand
+            × (self.new ≡ with_offers self.old self.new.hand self.new.known
             (length self.old.woken.list) refused) }
     {
         are_small(store);
         let nodes = self.woken.list();
+        self.known = known_with_last(self.known, nodes);
         let refused = offer_all(rt, board, &mut self.hand, nodes);
         self.report.commits += 1;
         self.report.offered += nodes.len() as u64;

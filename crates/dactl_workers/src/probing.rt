@@ -5,9 +5,10 @@ ghost use Rattle.dactl_model.specs.Acts.{node_of_event};
 ghost use Rattle.dactl_model.specs.RuleTold.{Shows};
 ghost use Rattle.dactl_model.specs.Versions.{IsShown};
 ghost use Rattle.dactl_shared.specs.Stores.{WorksFor, seen_of, program_of, SameCounts, IsNodeAfter};
-ghost use Rattle.dactl_workers.specs.Turns.{IsSeated, HasFootprint, HasLooked, IsReadSince, Tells};
+ghost use Rattle.dactl_workers.specs.Turns.{IsSeated, HasFootprint, AreNodesAfter, HasLooked, IsReadSince, Tells};
 
 use crate::gate::Gate;
+use crate::knowing::known_with_targets;
 use crate::worker::Worker;
 use dactl_decide::Deciders;
 use dactl_model::footprint::Attempt;
@@ -23,24 +24,29 @@ fn gather<G: Gate, R: Wait>(
     store: &SharedStore,
     gate: &G,
     seat: &mut WorkerSeat,
+    known: &mut u64,
     mut probe: Probe,
 ) -> Attempt
     requires own { WorksFor store.now seat.old }
+    requires known { AreNodesAfter (program_of store.now) (seen_of seat.old) known.old }
     requires program { probe.decisions.program ≡ program_of store.now }
     requires none { probe.readings ≡ [] }
     requires node { IsNodeAfter (program_of store.now) (seen_of seat.old) probe.node }
     ensures looked { HasLooked store.now seat.old seat.new }
     ensures counts { SameCounts seat.old seat.new }
+    ensures known { AreNodesAfter (program_of store.now) (seen_of seat.new) known.new }
     ensures shows { Shows (program_of store.now) result.footprint.readings
         result.footprint.bindings result.event }
     ensures node { node_of_event result.event ≡ probe.entry.node }
-    ensures shown { All (IsShown (program_of store.now) (seen_of seat.new)) result.footprint.readings }
+    ensures shown { All (IsShown (program_of store.now) (seen_of seat.new))
+        result.footprint.readings }
     ensures since { All (IsReadSince (program_of store.now) (seen_of seat.old) (seen_of seat.new))
         result.footprint.readings }
     ensures room { result.footprint.room ≡ probe.entry.room }
 {
     while let Next::Need(node) = probe.need() {
         let reading = store.read(rt, seat, node);
+        *known = known_with_targets(*known, &reading);
         gate.after_read(seat.number());
         probe.step(reading);
     }
@@ -67,14 +73,16 @@ impl<H> Worker<H> {
           seat = self.new.seat;
           footprint = self.new.footprint;
           woken = self.new.woken;
+          known = self.new.known;
         } }
-        ensures tells { Tells store.now node self.old.seat self.new.seat self.new.woken.list result }
+        ensures tells { Tells store.now node self.old.seat self.new.seat
+            self.new.woken.list result }
     {
         let Some(footprint) = self.footprint.take() else {
             unreachable!()
         };
         let probe = Probe::start(deciders, node, footprint);
-        let attempt = gather(rt, store, gate, &mut self.seat, probe);
+        let attempt = gather(rt, store, gate, &mut self.seat, &mut self.known, probe);
         gate.before_commit(self.seat.number());
         let answer = store.commit(rt, &mut self.seat, &attempt, &mut self.woken);
         self.footprint = Some(attempt.footprint);

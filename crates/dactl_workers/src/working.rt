@@ -22,8 +22,7 @@ impl<H> Worker<H> {
     /// them changed what was read, the step is refused, and the node is left to be found again as
     /// an active one. The nodes that a step made active are offered to the board, once each.
     ///
-    /// Takes no memory. It may wait for the store or the board, and it is not promised to return:
-    /// a program may run forever within its budget's time.
+    /// Takes no memory. It may wait for the store and the board.
     pub fn work<B: Board<Hand = H>, G: Gate, R: Wait>(
         &mut self,
         rt: &R,

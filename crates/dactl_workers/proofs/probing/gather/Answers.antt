@@ -1,11 +1,12 @@
 use Rattle.std.proofs.Common.{◌≡◌, List, [], ◌∷◌, ◌++◌, All, length, length-append, ap, sym, ◌∙◌, subst, arith}
 use Rattle.std.proofs.lemmas.List.Elements.{All-push}
 use Rattle.dactl_model.specs.declared.reading.Reading.{Reading}
+use Rattle.dactl_model.specs.Readings.{targets_of}
 use Rattle.dactl_model.specs.Versions.{IsShown}
 use Rattle.dactl_shared.specs.Stores.{seen_of, program_of, IsNodeAfter}
 use Rattle.dactl_probe.specs.Probing.{Probing}
 use Rattle.dactl_workers.specs.Turns.{IsReadSince, HasTargetsAfter}
-use Rattle.dactl_workers.proofs.Looks.{starts_trans, looked, looked_on, targets_on, since_on, shown_later, need_there, read_targets, read_since}
+use Rattle.dactl_workers.proofs.Looks.{starts_trans, looked, looked_on, nodes_on, known_all, targets_on, since_on, shown_later, need_there, read_targets, read_since}
 use Rattle.dactl_workers.proofs.probing.gather.Goals as goal
 
 pub read-reading-requires-clause-node : goal.read-reading-requires-clause-node
@@ -25,6 +26,7 @@ loop-node-preserved g c = let i = c.loop-node.invariant in let s = c.args.store.
     let readings : c.step.new.self.readings ≡ c.loop-node.probe.readings ++ r ∷ [] = ap (λ (z : Probing). z.readings) taken in record {
       looked = looked_on s first mid new i.looked turn;
       counts = (e.counts.0 ∙ i.counts.0, e.counts.1 ∙ i.counts.1);
+      known = known_all p (seen_of new) c.loop-node.known (targets_of r.targets) c.known_with_targets.result (nodes_on s mid new c.loop-node.known turn i.known) (read_targets s mid new c.in-Need.node r e.read) c.known_with_targets.ensures;
       decisions = ap (λ (z : Probing). z.decisions) taken ∙ i.decisions;
       node = ap (λ (z : Probing). z.node) taken ∙ i.node;
       room = ap (λ (z : Probing). z.room) taken ∙ i.room;

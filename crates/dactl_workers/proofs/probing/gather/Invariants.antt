@@ -1,13 +1,14 @@
 use Rattle.std.proofs.Common.{◌≡◌, ◌-◌, All, length}
 use Rattle.dactl_model.specs.Versions.{IsShown}
 use Rattle.dactl_shared.specs.Stores.{seen_of, program_of, SameCounts}
-use Rattle.dactl_workers.specs.Turns.{HasLooked, IsReadSince, HasTargetsAfter}
+use Rattle.dactl_workers.specs.Turns.{AreNodesAfter, HasLooked, IsReadSince, HasTargetsAfter}
 use Rattle.dactl_workers.proofs.probing.gather.Given as goal
 
 abbrev pub invariant-loop-node : goal.invariant-loop-node
 invariant-loop-node g l = record {
   looked : HasLooked l.store l.initial.seat l.seat;
   counts : SameCounts l.initial.seat l.seat;
+  known : AreNodesAfter (program_of l.store) (seen_of l.seat) l.known;
   decisions : l.probe.decisions ≡ l.initial.probe.decisions;
   node : l.probe.node ≡ l.initial.probe.node;
   room : l.probe.room ≡ l.initial.probe.room;

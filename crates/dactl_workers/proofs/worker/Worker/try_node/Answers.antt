@@ -10,7 +10,7 @@ returns-clause-seated g c = let r = c.requires.seated in let a = c.gather-attemp
     = record { looked = a.looked; counts = a.counts; own = e.own.0; number = e.own.1; step = e.step; mine = e.mine; stale = e.stale; passive = e.passive; since = a.since } in record {
       own = e.own.0;
       woken = subst (λ (n : ℕ). (limits_of c.args.store.now).nodes ≤ n) (sym e.room) r.woken;
-      known = λ n lt. nodes_tried c.args.store.now c.args.self.now.seat c.gather-attempt.new.seat c.commit-answer.new.seat attempt.event attempt.footprint.readings c.commit-answer.new.woken.list c.commit-answer.result t n (r.known n lt);
+      known = λ n lt. nodes_tried c.args.store.now c.args.self.now.seat c.gather-attempt.new.seat c.commit-answer.new.seat attempt.event attempt.footprint.readings c.commit-answer.new.woken.list c.commit-answer.result t n (a.known n lt);
       worker = r.worker ∙ sym (e.own.1 ∙ a.looked.number);
     }
 
