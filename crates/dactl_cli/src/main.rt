@@ -6,6 +6,7 @@ use dactl_base::adapters::{ReaderSource, WriterSink};
 use dactl_top::dactl;
 use dactl_top::kept::Kept;
 use dactl_top::status::Status;
+use dactl_workers::OpenGate;
 use std::io::ErrorKind;
 use std::process::ExitCode;
 use std::{env, io};
@@ -37,6 +38,14 @@ fn main(rt: HostRuntime) -> ExitCode {
     let mut kept = Kept::empty(rt.alloc());
     let mut source = ReaderSource::new(rt.reader());
     let mut sink = WriterSink::new(io::writer(&rt));
-    let status = dactl(rt.alloc(), &words, &mut source, &mut sink, &mut kept);
+    let status = dactl(
+        &rt,
+        rt.alloc(),
+        &words,
+        &mut source,
+        &mut sink,
+        &OpenGate,
+        &mut kept,
+    );
     ExitCode::from(status.code())
 }

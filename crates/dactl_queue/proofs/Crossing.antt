@@ -4,7 +4,7 @@ use denote.Param.Send.{IsSend, IsSync, sendable, part_keyless, recorded_sync, st
 use denote.Struct.Struct.{Struct}
 use denote.Struct.Declared.{shape}
 use Rattle.atomic_table.specs.contracts.shared.Seat.{the_row}
-use Rattle.atomic_table.proofs.Sent.{seat_keyless}
+use Rattle.atomic_table.proofs.shared.Seat.TheSendSync as place
 use Rattle.crossbeam_queue.proofs.array_queue.Slotted.TheSendSync as slotted
 use Rattle.crossbeam_queue.specs.contracts.array_queue.TurnsTableRuleOptionDoingUnit.TheImpl as turns
 use Rattle.dactl_model.specs.contracts.graph.NodeId as NodeId
@@ -18,12 +18,9 @@ use Rattle.std.specs.contracts.option.Option as Option
 use Rattle.std.proofs.alloc.Global.TheSendSync as heap
 use Rattle.std.proofs.Crossing.{frees}
 
-place_send : (S V : RattleType) → IsSend S → IsSend (the_row S V)
-place_send S V s = record { owned = λ d vs. ((λ vss. (tt, ((λ uss. (tt, tt)), tt))), seat_keyless S s V.coded.code d.table_id d.id d.me); leaving = λ k f vs. tt }
-
 -- a `&` to a seat of a table shows nothing
 place_sync : (S V : RattleType) → IsSend S → IsSync (the_row S V)
-place_sync S V s = record { shared = λ d b o κ q. part_keyless (the_row S V) (place_send S V s) q d b o }
+place_sync S V s = record { shared = λ d b o κ q. part_keyless (the_row S V) (place.the_send S V s) q d b o }
 
 node_send : IsSend (Option.the_row NodeId.the_row)
 node_send = search sendable depth 20

@@ -8,6 +8,9 @@ use std::sync::Wait;
 
 /// A place where workers hand nodes over. Each worker has a hand, which is used with its own board
 /// alone. Either call may wait for another hand.
+///
+/// A board may hand back any offer, and give nothing to any take: the clauses tell what became of
+/// each node, not that one gets through.
 pub trait Board {
     type Hand;
 

@@ -19,6 +19,11 @@ type Queue = RuledArrayQueue<NodeId, Account, Fair>;
 type Holder = Pass<NodeId, Account>;
 
 /// A board whose nodes are taken in the order in which they were put.
+///
+/// Of a board with one hand the clauses are exact. With several hands they say of an offer that is
+/// handed back, and of a take that gives nothing, only what was so for some accounts of the others,
+/// and there are such accounts for any number of nodes: no clause rules out a board that hands every
+/// offer back and gives nothing to any take.
 #[derive(Drop)]
 pub struct RuledBoard {
     queue: Queue,
@@ -163,7 +168,8 @@ impl Board for RuledBoard {
 
     ghost back = { back_of };
 
-    /// Puts a node at the back, or hands it back where the queue is full.
+    /// Puts a node at the back, or hands it back where the queue is full. With several hands no
+    /// clause says that it was full.
     fn offer<R: Wait>(&self, rt: &R, hand: &mut RuledHand, node: NodeId) -> Result<(), NodeId>
         requires hand { HandFits self.now hand.old }
         requires backs { back_of hand.old < 2 ^ 64 - 1 }
@@ -187,7 +193,8 @@ impl Board for RuledBoard {
         answer
     }
 
-    /// Takes the node at the front, or None where the queue is empty.
+    /// Takes the node at the front, or None where the queue is empty. With several hands no clause
+    /// says that it was empty.
     fn take<R: Wait>(&self, rt: &R, hand: &mut RuledHand) -> Option<NodeId>
         requires { HandFits self.now hand.old }
         ensures hand { HandFits self.now hand.new }

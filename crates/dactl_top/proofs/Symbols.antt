@@ -20,7 +20,8 @@ use Rattle.dactl_model.specs.Matching.{truth, delta_label}
 use Rattle.dactl_model.specs.Programs.{IsValid, IsLabel, IsFreshNode, IsBody}
 use Rattle.dactl_model.specs.Firing.{old_nodes, fresh_node, new_nodes, redirection, redirections, woken_variables, fired, start_of}
 use Rattle.dactl_model.specs.Noting.{noted_nodes}
-use Rattle.dactl_model.specs.Steps.{Step}
+use Rattle.dactl_model.specs.Steps.{Step, Reduction}
+use Rattle.dactl_model.specs.declared.graph.Entry.{Entry}
 use Rattle.dactl_print.specs.Lines.{IsLabelAmong, HasSymbolsOf}
 
 abbrev IsAmong : ℕ → Node → Type 0
@@ -73,3 +74,8 @@ keeps_symbols p g after (Note n) valid all step =
 
 pub begins_symbols : (p : Program) → IsValid p → HasSymbolsOf p (start_of p.start)
 begins_symbols p valid = fresh_among (length p.symbols) 0 (length p.start.fresh) 0 [] (λ x. x) p.start.fresh valid.start.each
+
+-- and of the graph to which a journal leads
+pub reduction_symbols : (p : Program) (g after : Graph) (journal : List Entry) → IsValid p → HasSymbolsOf p g → Reduction p g journal after → HasSymbolsOf p after
+reduction_symbols p g after [] valid all run = subst (HasSymbolsOf p) (sym run) all
+reduction_symbols p g after (entry ∷ journal) valid all run = reduction_symbols p run.0 after journal valid (keeps_symbols p g run.0 entry.event valid all run.1) run.2

@@ -1,9 +1,14 @@
 pub mod Lines
+pub mod Devices
 pub mod Input
-pub mod Answering
-pub mod Running
 pub mod Compiling
+pub mod Given
+pub mod Reports
+pub mod Running
+pub mod Outcomes
 pub mod Calls
 pub mod Headline
 pub mod Exact
 pub mod Reasons
+pub mod Laws
+pub mod Preparing

@@ -1,4 +1,4 @@
--- The exit code of each answer, and the line of each answer that is one line alone.
+-- The exit code of each answer, and the lines that tell numbers.
 use Rattle.std.specs.Prelude.{ℕ, List, codes, [], ◌++◌, decimal}
 use Rattle.dactl_base.specs.declared.refusal.Kind.{Kind}
 use Rattle.dactl_base.specs.declared.refusal.Kind.TheVariants as kinds
@@ -20,20 +20,6 @@ code_of WriteFault = 6
 code_of Memory = 7
 code_of TooLong = 8
 code_of Small = 9
-
--- the whole output of an answer that is one line, told alike whatever was read
-abbrev pub line_of : Status → List ℕ
-line_of Normal = []
-line_of Checked = codes "ok\n"
-line_of Budget = []
-line_of Usage = codes "usage: dactl [OPTIONS] < TEXT\n"
-line_of Refused = []
-line_of Full = []
-line_of ReadFault = codes "read fault\n"
-line_of WriteFault = []
-line_of Memory = codes "memory\n"
-line_of TooLong = codes "too long\n"
-line_of Small = []
 
 -- the line that tells what the first graph needs
 abbrev pub small_line : Room → List ℕ

@@ -45,7 +45,7 @@ fn sources_fail_at_each_read(rt: HostRuntime) -> Result<(), AllocError> {
     for read in 1..=78 {
         let source = failing_source(rt.alloc(), read)?;
         let sink = sink_of(rt.alloc(), 100, 100)?;
-        let answered = called_over(rt.alloc(), "", source, sink)?;
+        let answered = called_over(&rt, rt.alloc(), "", source, sink)?;
         assert!(rt; is_cut_off(&answered, read), "read {read}");
     }
     Ok(())
@@ -55,7 +55,7 @@ fn sources_fail_at_each_read(rt: HostRuntime) -> Result<(), AllocError> {
 fn samples_need_no_source(rt: HostRuntime) -> Result<(), AllocError> {
     let source = failing_source(rt.alloc(), 1)?;
     let sink = sink_of(rt.alloc(), 100, 100)?;
-    let answered = called_over(rt.alloc(), "--sample|1", source, sink)?;
+    let answered = called_over(&rt, rt.alloc(), "--sample|1", source, sink)?;
     assert!(rt; answered.is(0, b"normal 2\n@1 0\n"));
     Ok(())
 }
@@ -75,7 +75,7 @@ fn sinks_fail_at_each_byte(rt: HostRuntime) -> Result<(), AllocError> {
     for room in 0..=APPENDED.len() {
         let source = source_of(rt.alloc(), APPEND.as_bytes(), 100)?;
         let sink = sink_of(rt.alloc(), room, 1)?;
-        let answered = called_over(rt.alloc(), "", source, sink)?;
+        let answered = called_over(&rt, rt.alloc(), "", source, sink)?;
         assert!(rt; is_front(&answered, room), "room {room}");
     }
     Ok(())
@@ -86,7 +86,7 @@ fn sinks_fail_at_each_byte(rt: HostRuntime) -> Result<(), AllocError> {
 fn refusals_are_kept_without_a_sink(rt: HostRuntime) -> Result<(), AllocError> {
     let source = source_of(rt.alloc(), b"MODULE M; ?", 100)?;
     let sink = sink_of(rt.alloc(), 0, 1)?;
-    let answered = called_over(rt.alloc(), "", source, sink)?;
+    let answered = called_over(&rt, rt.alloc(), "", source, sink)?;
     let bad = Refusal {
         kind: Kind::BadByte,
         place: Place { byte: 10 },
@@ -112,7 +112,7 @@ fn texts_have_a_greatest_length(rt: HostRuntime) -> Result<(), AllocError> {
     ] {
         let source = padded(rt.alloc(), text, length)?;
         let sink = sink_of(rt.alloc(), 64, 64)?;
-        let answered = called_over(rt.alloc(), "", source, sink)?;
+        let answered = called_over(&rt, rt.alloc(), "", source, sink)?;
         assert!(rt; answered.is(code, output), "{length} bytes");
     }
     Ok(())

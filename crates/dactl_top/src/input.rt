@@ -2,6 +2,7 @@
 
 ghost use Rattle.std.specs.Prelude.{◌≡◌, ◌≤◌, []};
 ghost use Rattle.dactl_settings.specs.Limits.{IsWithinLimits};
+ghost use Rattle.dactl_top.specs.Devices.{source_change};
 ghost use Rattle.dactl_top.specs.Input.{HasRead, HasTaken};
 
 use dactl_base::source::Source;
@@ -31,7 +32,8 @@ pub enum Input {
 /// Reads all that the source gives, up to one byte more than a text may have, onto an empty `text`.
 pub fn read_all<S: Source>(source: &mut S, text: &mut Vec<u8>) -> Input
     requires { text.old.items ≡ [] }
-    ensures read { HasRead (S.left source.old) (S.left source.new) (S.faults source.old) (S.faults source.new) text.new.items result }
+    ensures read { HasRead (source_change S.left S.faults source.old source.new)
+        text.new.items result }
     ensures later { S.faults source.old ≤ S.faults source.new }
 {
     let mut piece = [0u8; PIECE];
@@ -59,7 +61,8 @@ pub fn take_text<S: Source>(
 ) -> Input
     requires limits { IsWithinLimits settings }
     requires empty { text.old.items ≡ [] }
-    ensures { HasTaken settings.sample (S.left source.old) (S.left source.new) (S.faults source.old) (S.faults source.new) text.new.items result }
+    ensures { HasTaken settings.sample (source_change S.left S.faults source.old source.new)
+        text.new.items result }
 {
     let Some(count) = settings.sample else {
         return read_all(source, text);

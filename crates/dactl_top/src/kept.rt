@@ -6,6 +6,7 @@ use dactl_base::refusal::Refusal;
 use dactl_model::graph::{End, Entry};
 use dactl_model::program::Program;
 use dactl_settings::Settings;
+use dactl_workers::WorkerReport;
 use std::alloc::Global;
 
 /// What a call read, made and did. It is empty before the call.
@@ -23,6 +24,10 @@ pub struct Kept {
     pub journal: Vec<Entry>,
     /// How the run ended, where one ran.
     pub end: Option<End>,
+    /// What each worker of the run counted, in the order of their numbers.
+    pub reports: Vec<WorkerReport>,
+    /// How many nodes that the workers had offered were left to be taken when the run ended.
+    pub left: u64,
 }
 
 impl Kept {
@@ -37,6 +42,8 @@ impl Kept {
             program: None,
             journal: Vec::new(alloc),
             end: None,
+            reports: Vec::new(alloc),
+            left: 0,
         }
     }
 }

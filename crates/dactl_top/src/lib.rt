@@ -1,16 +1,19 @@
 //! The whole program: from words and a source text to an answer on a sink.
 #![tactic(auto)]
 
-mod answer;
 pub mod call;
 mod compile;
+mod crew;
 mod input;
 pub mod kept;
+pub mod laws;
 mod lines;
+mod outcome;
 mod output;
-pub mod run;
-mod scan;
+mod prepare;
 pub mod status;
+mod steps;
+mod telling;
 
 pub use call::dactl;
 
@@ -32,3 +35,5 @@ mod store_tests;
 mod syntax_tests;
 #[cfg(test)]
 mod testing;
+#[cfg(test)]
+mod worker_tests;

@@ -1,18 +1,17 @@
 //! Writing the output of a run.
 
-ghost use Rattle.std.specs.Prelude.{◌≡◌, ℕ, ◌≤◌, ◌++◌, [], List, length, OnOk, OnErr};
-ghost use Rattle.dactl_base.specs.Faults.{Rose};
-ghost use Rattle.dactl_model.specs.Graphs.{IsWellFormed};
-ghost use Rattle.dactl_print.specs.Lines.{HasSymbolsOf, IsGraphText};
+ghost use Rattle.std.specs.Prelude.{ℕ, List};
+ghost use Rattle.dactl_print.specs.Lines.{IsGraphText};
 ghost use Rattle.dactl_print.specs.Printing.{Prints};
-ghost use Rattle.dactl_print.specs.Texts.{end_line};
-ghost use Rattle.dactl_top.specs.Answering.{Writes};
-ghost use Rattle.dactl_top.specs.Calls.{trace_if};
+ghost use Rattle.dactl_top.specs.Devices.{Writes, sink_change};
+ghost use Rattle.dactl_top.specs.Outcomes.{run_text, trace_if};
+ghost use Rattle.dactl_top.specs.Preparing.{IsPrintable};
+ghost use Rattle.std.specs.Prelude.{◌≡◌};
 
+use crate::outcome::EndedRun;
 use dactl_base::sink::Sink;
 use dactl_base::source::Failed;
-use dactl_model::graph::{End, Entry, Graph};
-use dactl_model::program::Program;
+use dactl_model::graph::Entry;
 use dactl_print::printer::{Numbering, flush, show, show_end, show_trace};
 
 // Prints the journal, where a trace is asked for.
@@ -22,7 +21,9 @@ fn show_trace_if<K: Sink>(
     numbering: &mut Numbering,
     sink: &mut K,
 ) -> Result<(), Failed>
-    ensures prints { Prints (K.holds sink.old) (K.holds sink.new) (K.faults sink.old) (K.faults sink.new) numbering.old.gathered numbering.new.gathered result (trace_if trace journal.now) }
+    ensures prints { Prints (K.holds sink.old) (K.holds sink.new)
+        (K.faults sink.old) (K.faults sink.new)
+        numbering.old.gathered numbering.new.gathered result (trace_if trace journal.now) }
     ensures room { numbering.new.room ≡ numbering.old.room }
 {
     if trace {
@@ -32,29 +33,24 @@ fn show_trace_if<K: Sink>(
     }
 }
 
-/// Writes how a run ended after so many entries, its journal where a trace is asked for, and its last graph below the root.
+/// Writes how a run ended, its journal where a trace is asked for, and its last graph below the
+/// root. Takes no memory.
 pub fn write_run<K: Sink>(
-    program: &Program,
-    graph: &Graph,
-    end: End,
-    entries: u32,
+    run: &EndedRun,
     trace: bool,
-    journal: &[Entry],
     numbering: &mut Numbering,
     sink: &mut K,
 ) -> Result<(), Failed>
-    requires formed { IsWellFormed graph.now }
-    requires symbols { HasSymbolsOf program.now graph.now }
-    requires room { length graph.now.nodes ≤ numbering.old.room }
-    requires none { numbering.old.gathered ≡ [] }
-    ensures whole { OnOk result ((text : List ℕ) × IsGraphText program.now graph.now text) }
-    ensures written { (text : List ℕ) → IsGraphText program.now graph.now text
-        → Writes (K.holds sink.old) (K.holds sink.new) (K.faults sink.old) (K.faults sink.new) (end_line end entries ++ trace_if trace journal.now ++ text) result }
-    ensures cause { OnErr result (Rose (K.faults sink.old) (K.faults sink.new)) }
+    requires { IsPrintable run.now numbering.old }
+    ensures { (text : List ℕ) → IsGraphText run.now.program run.now.store.graph text
+        → Writes (sink_change K.holds K.faults sink.old sink.new)
+            (run_text run.now trace text) result }
 {
-    show_end(&end, entries, numbering, sink)?;
+    let journal = run.journal.as_slice();
+    let entries = journal.len() as u32;
+    show_end(&run.ended, entries, numbering, sink)?;
     show_trace_if(trace, journal, numbering, sink)?;
-    show(graph, program, numbering, sink)?;
+    show(&run.store, &run.program, numbering, sink)?;
     flush(numbering, sink)?;
     Ok(())
 }

@@ -3,6 +3,8 @@
 use crate::testing::{APPEND, called, expect};
 use dactl_base::refusal::{Kind, Place, Refusal};
 use std::alloc::{AllocError, Global};
+use std::sync::Wait;
+use std::thread::Threads;
 
 #[test]
 fn tokens_grammar_and_names_are_refused(rt: HostRuntime) -> Result<(), AllocError> {
@@ -191,7 +193,7 @@ fn the_first_fault_is_told(rt: HostRuntime) -> Result<(), AllocError> {
     ] {
         expect(&rt, rt.alloc(), words, text, 3, output)?;
     }
-    let answered = called(rt.alloc(), "", "MODULE M; INITIAL => x; ENDMODULE M;")?;
+    let answered = called(&rt, rt.alloc(), "", "MODULE M; INITIAL => x; ENDMODULE M;")?;
     let unbound = Refusal {
         kind: Kind::Unbound,
         place: Place { byte: 21 },
@@ -223,8 +225,12 @@ fn is_unexpected(alloc: Global, held: &[u8], place: usize) -> Result<bool, Alloc
 }
 
 // Whether the text is told to be unexpected at its last token or at its end.
-fn is_cut_off(alloc: Global, text: &str) -> Result<bool, AllocError> {
-    let answered = called(alloc, "", text)?;
+fn is_cut_off<R: Threads + Wait + Sync>(
+    rt: &R,
+    alloc: Global,
+    text: &str,
+) -> Result<bool, AllocError> {
+    let answered = called(rt, alloc, "", text)?;
     let held = answered.sink.held();
     Ok(is_unexpected(alloc, held, last_token(text))? || is_unexpected(alloc, held, text.len())?)
 }
@@ -235,7 +241,7 @@ fn texts_that_are_cut_off_are_refused(rt: HostRuntime) -> Result<(), AllocError>
     let end = APPEND.rfind(';').unwrap_or(APPEND.len());
     for length in 0..=end {
         if let Some(text) = APPEND.get(..length) {
-            assert!(rt; is_cut_off(rt.alloc(), text)?, "after {length} bytes");
+            assert!(rt; is_cut_off(&rt, rt.alloc(), text)?, "after {length} bytes");
         }
     }
     Ok(())

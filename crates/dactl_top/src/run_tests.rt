@@ -85,7 +85,7 @@ fn runs_go_step_by_step(rt: HostRuntime) -> Result<(), AllocError> {
             "normal 2\n1 w1 fire 0 6\n2 w1 note 4\n@1 No\n",
         ),
     ] {
-        expect(&rt, rt.alloc(), "--trace", text, 0, output)?;
+        expect(&rt, rt.alloc(), "--workers|1|--trace", text, 0, output)?;
     }
     Ok(())
 }
@@ -120,7 +120,7 @@ fn redirections_happen_at_once(rt: HostRuntime) -> Result<(), AllocError> {
             "normal 2\n1 w1 fire 0 5\n2 w1 note 1\n@1 F[@2]\n@2 A\n",
         ),
     ] {
-        expect(&rt, rt.alloc(), "--trace", text, 0, output)?;
+        expect(&rt, rt.alloc(), "--workers|1|--trace", text, 0, output)?;
     }
     Ok(())
 }
@@ -193,7 +193,7 @@ fn words_say_how_a_text_is_run(rt: HostRuntime) -> Result<(), AllocError> {
 // The end that a full run keeps, with its counts.
 #[test]
 fn full_runs_keep_their_counts(rt: HostRuntime) -> Result<(), AllocError> {
-    let answered = called(rt.alloc(), "--nodes=2", LOOP)?;
+    let answered = called(&rt, rt.alloc(), "--nodes=2", LOOP)?;
     let full = End::Full {
         node: NodeId { number: 1 },
         rule: 5,

@@ -1,13 +1,12 @@
 //! Runs on whole graphs and on the store, side by side: the graph with its marks, the versions and the woken
 //! nodes after each entry.
 
-ghost use Rattle.std.specs.Prelude.{◌≡◌, ◌<◌, ◌≤◌, ◌^◌, IfOk, length};
+ghost use Rattle.std.specs.Prelude.{◌≡◌, ◌<◌, ◌≤◌, ◌^◌, IfOk, IfSome, length};
 ghost use Rattle.dactl_model.specs.Graphs.{HasNode, IsSmall, IsWellFormed};
 ghost use Rattle.dactl_model.specs.Matching.{IsActive};
 ghost use Rattle.dactl_model.specs.Programs.{IsValid};
 
 use crate::compile::compile;
-use crate::scan::first_active;
 use crate::testing::{APPEND, BOTH, CHAIN, CHOICES, KEPT_FLAG, SHARED_CELL, SUM, TWO_OF_ONE};
 use dactl_base::refusal::TextFault;
 use dactl_model::footprint::Woken;
@@ -163,6 +162,22 @@ fn made_active(
         }
     }
     Ok(made)
+}
+
+// The first active node, if there is one.
+fn first_active(graph: &Graph) -> Option<NodeId>
+    requires { length graph.now.nodes < 2 ^ 32 }
+    ensures active { IfSome result (IsActive graph.now) }
+    ensures inside { IfSome result (HasNode graph.now) }
+{
+    for (number, node) in graph.nodes.as_slice().iter().enumerate() {
+        if matches!(node.mark, Mark::Active) {
+            return Some(NodeId {
+                number: number as u32,
+            });
+        }
+    }
+    None
 }
 
 // Room for the nodes of these runs.

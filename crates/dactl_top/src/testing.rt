@@ -6,8 +6,11 @@ use crate::call::dactl;
 use crate::kept::Kept;
 use crate::status::Status;
 use dactl_base::memory::{MemorySink, MemorySource};
+use dactl_workers::{Gate, OpenGate};
 use std::alloc::{AllocError, Global};
 use std::process::Abort;
+use std::sync::Wait;
+use std::thread::Threads;
 
 pub const APPEND: &str =
     "MODULE Main;\nSYMBOL REWRITABLE Append;\nSYMBOL CREATABLE Cons, Nil;\nRULE\n  Append[Nil y] => *y;\n  Append[Cons[h t] y] => *Cons[h *Append[t y]];\nINITIAL => *Append[Cons[Nil Nil] Nil];\nENDMODULE Main;\n";
@@ -76,38 +79,68 @@ impl Answered {
     }
 }
 
+/// Calls with these words over this source and this sink, with workers that pass this gate.
+pub fn called_by<R: Threads + Wait + Sync, G: Gate + Sync>(
+    rt: &R,
+    alloc: Global,
+    words: &str,
+    source: MemorySource,
+    sink: MemorySink,
+    gate: &G,
+) -> Result<Answered, AllocError> {
+    let words = words_of(alloc, words)?;
+    let (mut source, mut sink) = (source, sink);
+    let mut kept = Kept::empty(alloc);
+    let status = dactl(rt, alloc, &words, &mut source, &mut sink, gate, &mut kept);
+    Ok(Answered { status, kept, sink })
+}
+
 /// Calls with these words over this source and this sink.
-pub fn called_over(
+pub fn called_over<R: Threads + Wait + Sync>(
+    rt: &R,
     alloc: Global,
     words: &str,
     source: MemorySource,
     sink: MemorySink,
 ) -> Result<Answered, AllocError> {
-    let words = words_of(alloc, words)?;
-    let (mut source, mut sink) = (source, sink);
-    let mut kept = Kept::empty(alloc);
-    let status = dactl(alloc, &words, &mut source, &mut sink, &mut kept);
-    Ok(Answered { status, kept, sink })
+    called_by(rt, alloc, words, source, sink, &OpenGate)
 }
 
-/// Calls with these words over a source of the text and a sink with enough room.
-pub fn called(alloc: Global, words: &str, text: &str) -> Result<Answered, AllocError> {
+/// Calls with these words over a source of the text and a sink with enough room, with workers that
+/// pass this gate.
+pub fn called_at<R: Threads + Wait + Sync, G: Gate + Sync>(
+    rt: &R,
+    alloc: Global,
+    words: &str,
+    text: &str,
+    gate: &G,
+) -> Result<Answered, AllocError> {
     let bytes = Vec::from_slice(alloc, text.as_bytes())?;
     let source = MemorySource::new(bytes, 1_000, Vec::new(alloc));
     let sink = MemorySink::new(alloc, 4_096, 11, Vec::new(alloc))?;
-    called_over(alloc, words, source, sink)
+    called_by(rt, alloc, words, source, sink, gate)
+}
+
+/// The same, where nothing holds the workers up.
+pub fn called<R: Threads + Wait + Sync>(
+    rt: &R,
+    alloc: Global,
+    words: &str,
+    text: &str,
+) -> Result<Answered, AllocError> {
+    called_at(rt, alloc, words, text, &OpenGate)
 }
 
 /// Calls, and compares the answer with its code and its output.
-pub fn expect(
-    rt: &impl Abort,
+pub fn expect<R: Abort + Threads + Wait + Sync>(
+    rt: &R,
     alloc: Global,
     words: &str,
     text: &str,
     code: u8,
     output: &str,
 ) -> Result<(), AllocError> {
-    let answered = called(alloc, words, text)?;
+    let answered = called(rt, alloc, words, text)?;
     assert!(rt; answered.is(code, output.as_bytes()), "{words} {text}");
     Ok(())
 }

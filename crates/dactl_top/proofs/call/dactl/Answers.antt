@@ -1,15 +1,14 @@
-use Rattle.dactl_top.proofs.Following.{headline, exact, caused, keeps_faith, cut_off, written}
+use Rattle.dactl_top.proofs.Consequences.{answered, headline, exact, caused, keeps_faith}
 use Rattle.dactl_top.proofs.call.dactl.Goals as goal
 
-pub returns : goal.returns
-returns g c =
-    let whole = c.answer.ensures in
-    record {
-      answered = whole;
-      headline = headline _ _ _ _ _ _ whole;
-      exact = exact _ _ _ _ _ _ whole;
-      caused = caused _ _ _ _ _ _ whole;
-      keeps = keeps_faith _ _ _ _ _ _ whole;
-      cut_off = cut_off _ _ _ _ _ _ whole;
-      written = written _ _ _ _ _ _ whole;
-    }
+pub returns-clause-headline : goal.returns-clause-headline
+returns-clause-headline g c = headline _ (answered _ _ _ _ _ _ _ c.answer_words-outcome.ensures.cause c.conclude.ensures.given c.conclude.ensures.kept c.conclude.ensures.told)
+
+pub returns-clause-exact : goal.returns-clause-exact
+returns-clause-exact g c = exact _ (answered _ _ _ _ _ _ _ c.answer_words-outcome.ensures.cause c.conclude.ensures.given c.conclude.ensures.kept c.conclude.ensures.told)
+
+pub returns-clause-keeps : goal.returns-clause-keeps
+returns-clause-keeps g c = keeps_faith _ (answered _ _ _ _ _ _ _ c.answer_words-outcome.ensures.cause c.conclude.ensures.given c.conclude.ensures.kept c.conclude.ensures.told)
+
+pub returns-clause-caused : goal.returns-clause-caused
+returns-clause-caused g c = caused _ (answered _ _ _ _ _ _ _ c.answer_words-outcome.ensures.cause c.conclude.ensures.given c.conclude.ensures.kept c.conclude.ensures.told)

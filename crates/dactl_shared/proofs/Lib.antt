@@ -1,0 +1,6 @@
+pub mod Crossing
+pub mod Endings
+pub mod Later
+pub mod Nodes
+pub mod Numbers
+pub mod Turns

@@ -1,0 +1,5 @@
+pub mod Contents
+pub mod Nodes
+pub mod NotGrown
+pub mod Stepping
+pub mod Course

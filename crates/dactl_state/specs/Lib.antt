@@ -1,0 +1,4 @@
+pub mod Grown
+pub mod Ends
+pub mod Histories
+pub mod Runs

@@ -1,0 +1,26 @@
+use Rattle.std.proofs.Common.{rules, ◌≡◌, ◌<◌, ◌≤◌, ℕ, ◌+◌, ◌*◌, length, ap, sym, ◌∙◌, subst, vec_capacity, arith}
+use Rattle.dactl_queue.specs.Boards.{parts_of, share_of}
+use Rattle.dactl_shared.specs.Stores.{workers_of}
+use Rattle.dactl_top.specs.Preparing.{IsNewBoard, AreWorkers}
+use Rattle.dactl_top.proofs.Tallies.{seats_numbered}
+use Rattle.dactl_top.proofs.crew.Crew.gather.Goals as goal
+
+pub returns-clause-crew : goal.returns-clause-crew
+returns-clause-crew c =
+    let store = c.in_ok-store.store in
+    let board = c.in_ok-board.board in
+    let s = c.in_ok-store.ensures in
+    let b = c.in_ok-board.ensures in
+    let w = c.in_ok-crew.ensures in
+    let many : workers_of store ≡ c.args.workers = s.store.2 in
+    let long : length c.in_ok-store.seats.items ≡ c.args.workers = search rules in
+    let some_workers = c.requires.workers.0 in
+    let capacity : c.args.workers ≤ vec_capacity c.in_ok-reports.reports = search rules in
+    record {
+      some = omega arith;
+      none = s.store.3;
+      board = subst (IsNewBoard board) (sym many) (record { puts = b.none.0; takes = b.none.1; parts = b.parts });
+      workers = subst (λ (n : ℕ). AreWorkers store board c.args.widest n c.in_ok-crew.crew.items) (sym many) (record { numbers = w.numbers ∙ seats_numbered c.in_ok-store.seats.items c.args.workers s.numbers long; each = w.each });
+      reports = c.in_ok-reports.ensures.items;
+      room = omega arith;
+    }

@@ -1,0 +1,18 @@
+use Rattle.std.proofs.Common.{◌≡◌, ◌++◌, All, map, length}
+use Rattle.std.specs.Vec.Iter.{into_iter_items, into_iter_len}
+use Rattle.dactl_queue.specs.Boards.{IsFresh as IsFreshHand}
+use Rattle.dactl_shared.specs.declared.store.WorkerSeat.{WorkerSeat}
+use Rattle.dactl_shared.specs.Stores.{IsFresh}
+use Rattle.dactl_top.specs.Preparing.{IsIdle, numbers_of}
+use Rattle.dactl_top.proofs.crew.workers_of.Given as goal
+
+-- the seats and hands that are still to come, and the workers that have theirs
+abbrev pub invariant-loop-seat : goal.invariant-loop-seat
+invariant-loop-seat l = record {
+  seats : All (IsFresh l.store) (into_iter_items l.seat-iterator);
+  long : into_iter_len l.seat-iterator ≡ length (into_iter_items l.seat-iterator);
+  hands : All (IsFreshHand l.board) l.hands.items;
+  count : length l.hands.items ≡ length (into_iter_items l.seat-iterator);
+  each : All (IsIdle l.store l.board l.widest) l.workers.items;
+  numbers : numbers_of l.workers.items ++ map (λ (s : WorkerSeat). s.number) (into_iter_items l.seat-iterator) ≡ map (λ (s : WorkerSeat). s.number) l.fn.seats.items;
+}

@@ -1,0 +1,10 @@
+pub mod Subsequences
+pub mod OwnActs
+pub mod Done
+pub mod Offers
+pub mod Looks
+pub mod Tried
+pub mod Gone
+pub mod Reports
+pub mod Pairs
+pub mod Crossing

@@ -1,0 +1,20 @@
+use Rattle.std.proofs.Common.{◌≡◌, ◌-◌, All, length}
+use Rattle.dactl_model.specs.Versions.{IsShown}
+use Rattle.dactl_shared.specs.Stores.{seen_of, program_of, SameCounts}
+use Rattle.dactl_workers.specs.Turns.{HasLooked, IsReadSince, HasTargetsAfter}
+use Rattle.dactl_workers.proofs.probing.gather.Given as goal
+
+abbrev pub invariant-loop-node : goal.invariant-loop-node
+invariant-loop-node g l = record {
+  looked : HasLooked l.store l.initial.seat l.seat;
+  counts : SameCounts l.initial.seat l.seat;
+  decisions : l.probe.decisions ≡ l.initial.probe.decisions;
+  node : l.probe.node ≡ l.initial.probe.node;
+  room : l.probe.room ≡ l.initial.probe.room;
+  shown : All (IsShown (program_of l.store) (seen_of l.seat)) l.probe.readings;
+  since : All (IsReadSince (program_of l.store) (seen_of l.initial.seat) (seen_of l.seat)) l.probe.readings;
+  targets : All (HasTargetsAfter (program_of l.store) (seen_of l.seat)) l.probe.readings;
+}
+
+abbrev pub decreases-loop-node : goal.decreases-loop-node
+decreases-loop-node g l = l.probe.decisions.widest - length l.probe.readings

@@ -1,0 +1,4 @@
+pub mod Accounts
+pub mod Work
+pub mod Reports
+pub mod Turns
