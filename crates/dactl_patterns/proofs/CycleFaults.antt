@@ -15,7 +15,7 @@ use Rattle.dactl_syntax.specs.Faults.{Precedes}
 use Rattle.dactl_syntax.specs.Meaning.{IsCycleAt, CycleFault}
 use Rattle.dactl_symbols.specs.Least.{sooner, TellsLeast}
 use Rattle.dactl_symbols.proofs.Sooner.{Any-nil, Any-cons, Any-uncons, tells-same, tells-sooner}
-use Rattle.dactl_patterns.specs.declared.cycling.Declared.{Declared}
+use Rattle.dactl_patterns.specs.declared.declarations.Declared.{Declared}
 use Rattle.dactl_patterns.specs.Cycling.{ReachesItself}
 use Rattle.dactl_patterns.specs.Cycles.{declared_at, declared_from, all_declared, DeclaredCycle, SomeCycle}
 use Rattle.dactl_patterns.proofs.Told.{not_before_itself}

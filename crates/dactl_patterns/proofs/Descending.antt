@@ -9,7 +9,7 @@ use Rattle.dactl_syntax.specs.declared.tree.Text.{Text}
 use Rattle.dactl_syntax.specs.Declarations.{item_pattern, named_pattern}
 use Rattle.dactl_syntax.specs.Meaning.{NamedPattern, Reaches}
 use Rattle.dactl_symbols.proofs.Sooner.{Any-cons}
-use Rattle.dactl_patterns.specs.declared.cycling.Declared.{Declared}
+use Rattle.dactl_patterns.specs.declared.declarations.Declared.{Declared}
 use Rattle.dactl_patterns.specs.Cycling.{named_by, named_from, ReachesItself}
 use Rattle.dactl_patterns.specs.Cycles.{declared_at, declared_from, all_declared}
 use Rattle.dactl_patterns.specs.Levels.{DescendsAt, IsDescending}

@@ -1,24 +1,21 @@
 -- The expansion of a pattern and its nodes, by the layer at the pattern's top.
-use Rattle.std.proofs.Common.{◌≡◌, ℕ, ℤ, zero, suc, ◌+◌, ◌-◌, ◌<◌, List, [], ◌∷◌, map, length, Option, Some, None, refl, sym, ap, ◌∙◌, arith}
+use Rattle.std.proofs.Common.{◌≡◌, ℕ, ◌+◌, ◌≤◌, List, [], ◌∷◌, map, length, Option, Some, None, refl, sym, ap, ◌∙◌, subst, arith}
 use Rattle.std.specs.Prelude.{sum_by}
-use Rattle.std.proofs.lemmas.List.{length-map}
 use Rattle.std.proofs.lemmas.List.Sums.{sum_by-cons, sum-map}
 use Rattle.dactl_model.specs.declared.program.Pat.{Pat}
 use Rattle.dactl_model.specs.declared.program.Pat.TheOpen.{Pat-F}
 use Rattle.dactl_model.specs.declared.program.Pat.TheViews.{roll-Pat}
 use Rattle.dactl_model.specs.declared.program.Pat.TheFolds.{fold-roll-Pat}
-use Rattle.dactl_model.specs.declared.program.Class.{Class}
 use Rattle.dactl_syntax.specs.declared.tree.Name.{Name}
 use Rattle.dactl_syntax.specs.declared.tree.Sign.{Sign}
 use Rattle.dactl_syntax.specs.declared.tree.Sign.TheVariants as signs
 use Rattle.dactl_syntax.specs.declared.tree.PatternTree.{PatternTree}
+use Rattle.dactl_syntax.specs.declared.tree.PatternTree.TheVariants.{rolls-Any, rolls-Int, rolls-Integer, rolls-Sym, rolls-Variable, rolls-Binder, rolls-Chain}
 use Rattle.dactl_syntax.specs.declared.tree.PatternTree.TheVariants as p
-use Rattle.dactl_syntax.specs.declared.tree.Text.{Text}
-use Rattle.dactl_syntax.specs.Declarations.{named_pattern}
-use Rattle.dactl_syntax.specs.Sight.{Seen, SeenSymbol, SeenPattern, sees}
-use Rattle.dactl_syntax.specs.Expansion.{at_name, at_variable, join, chain, expansion_level, expansion_by, expansion_of, named_expansion, pattern_nodes, pattern_nodes_level}
-use Rattle.dactl_patterns.specs.Standing.{inner_expansion, inner_nodes, link_nodes}
+use Rattle.dactl_syntax.specs.Sight.{Seen, SeenSymbol, SeenPattern}
+use Rattle.dactl_syntax.specs.Expansion.{at_name, at_variable, join, chain, expansion_level, expansion_by, pattern_nodes, pattern_nodes_level}
 use Rattle.dactl_patterns.proofs.Trees.{fold_any, fold_int, fold_integer, fold_symbol, fold_variable, fold_binder, fold_chain}
+use Rattle.dactl_patterns.proofs.Induction.{Each, EachLink, pattern_induction}
 
 -- ---- expansions
 
@@ -38,77 +35,78 @@ module _ (look : List ℕ → Option Seen) (named : ℕ → ℕ → Pat) (variab
   pub expands_chain : (first : PatternTree) (rest : List (Sign × PatternTree)) → expand (p.Chain first rest) ≡ chain (expand first) (map (λ l. (l.0, expand l.1)) rest)
   expands_chain first rest = fold_chain (expansion_level look named variables) first rest
 
--- a named pattern at one depth, by those below
-pub named_more : (text : Text) (depth m i : ℕ) → 0 < depth → named_expansion text depth m i ≡ expansion_of (named_expansion text (depth - 1)) (sees text m) (named_pattern text m i)
-named_more text zero m i h = absurd (omega arith)
-named_more text (suc d) m i h = let e : suc d - 1 ≡ d = omega arith in rw e refl
-
 -- ---- nodes
 
-pub sum_by-map : {A B : Type 0} (f : B → ℕ) (g : A → B) (xs : List A) → sum_by f (map g xs) ≡ sum_by (λ x. f (g x)) xs
+sum_by-map : {A B : Type 0} (f : B → ℕ) (g : A → B) (xs : List A) → sum_by f (map g xs) ≡ sum_by (λ x. f (g x)) xs
 sum_by-map f g [] = refl
 sum_by-map f g (x ∷ xs) = sum_by-cons f (g x) (map g xs) ∙ ap (λ n. f (g x) + n) (sum_by-map f g xs) ∙ sym (sum_by-cons (λ x. f (g x)) x xs)
 
-nodes_joined : (sign : Sign) (a b : Pat) → pattern_nodes (join sign a b) ≡ 1 + (pattern_nodes a + pattern_nodes b)
+pub nodes_joined : (sign : Sign) (a b : Pat) → pattern_nodes (join sign a b) ≡ 1 + (pattern_nodes a + pattern_nodes b)
 nodes_joined signs.Plus a b = fold-roll-Pat ℕ pattern_nodes_level (Pat-F.Union a b)
 nodes_joined signs.Minus a b = fold-roll-Pat ℕ pattern_nodes_level (Pat-F.Less a b)
 
-nodes_chained : (a : Pat) (rest : List (Sign × Pat)) → pattern_nodes (chain a rest) ≡ length rest + (pattern_nodes a + sum_by (λ l. pattern_nodes l.1) rest)
+pub nodes_chained : (a : Pat) (rest : List (Sign × Pat)) → pattern_nodes (chain a rest) ≡ length rest + (pattern_nodes a + sum_by (λ l. pattern_nodes l.1) rest)
 nodes_chained a [] = omega arith
 nodes_chained a (l ∷ rest) =
     let f : Sign × Pat → ℕ = λ l. pattern_nodes l.1 in
     omega (arith, nodes_chained (join l.0 a l.1) rest, nodes_joined l.0 a l.1, sum_by-cons f l rest)
 
-module _ (text : Text) (owner depth : ℕ) where
-  abbrev nodes : PatternTree → ℕ
-  nodes = inner_nodes text owner depth
+pub nodes_symbol : (f : ℕ) (ps : List Pat) → pattern_nodes (roll-Pat (Pat-F.Sym f ps)) ≡ 1 + sum_by pattern_nodes ps
+nodes_symbol f ps = fold-roll-Pat ℕ pattern_nodes_level (Pat-F.Sym f ps) ∙ ap (λ n. 1 + n) (sum-map pattern_nodes ps)
 
-  pub nodes_any : nodes p.Any ≡ 1
-  nodes_any = ap pattern_nodes (fold_any (expansion_level (sees text owner) (named_expansion text depth) None)) ∙ fold-roll-Pat ℕ pattern_nodes_level Pat-F.Any
+pub nodes_bound : (variables : Option (List (List ℕ))) (x : List ℕ) (a : Pat) → pattern_nodes (at_variable variables x a) ≡ pattern_nodes a
+nodes_bound None x a = refl
+nodes_bound (Some variables) x a = fold-roll-Pat ℕ pattern_nodes_level (Pat-F.Bind _ a)
 
-  pub nodes_int : nodes p.Int ≡ 1
-  nodes_int = ap pattern_nodes (fold_int (expansion_level (sees text owner) (named_expansion text depth) None)) ∙ fold-roll-Pat ℕ pattern_nodes_level Pat-F.Int
+-- the nodes of a symbol over the expansions of trees
+pub nodes_over : (of : PatternTree → Pat) (f : ℕ) (trees : List PatternTree) → pattern_nodes (roll-Pat (Pat-F.Sym f (map of trees))) ≡ 1 + sum_by (λ t. pattern_nodes (of t)) trees
+nodes_over of f trees = nodes_symbol f (map of trees) ∙ ap (λ n. 1 + n) (sum_by-map pattern_nodes of trees)
 
-  pub nodes_integer : (value : ℤ) → nodes (p.Integer value) ≡ 1
-  nodes_integer value = ap pattern_nodes (fold_integer (expansion_level (sees text owner) (named_expansion text depth) None) value) ∙ fold-roll-Pat ℕ pattern_nodes_level (Pat-F.Literal value)
+-- a chain has the nodes of its first two patterns at least, and one for their sign
+pub chain_over : (a : Pat) (l : Sign × Pat) (rest : List (Sign × Pat)) → 1 + (pattern_nodes a + pattern_nodes l.1) ≤ pattern_nodes (chain a (l ∷ rest))
+chain_over a l rest = let f : Sign × Pat → ℕ = λ l. pattern_nodes l.1 in omega (arith, nodes_chained a (l ∷ rest), sum_by-cons f l rest)
 
-  pub nodes_variable : (name : Name) → nodes (p.Variable name) ≡ 1
-  nodes_variable name = ap pattern_nodes (expands_variable (sees text owner) (named_expansion text depth) None name) ∙ fold-roll-Pat ℕ pattern_nodes_level Pat-F.Any
+pub chain_first : (a : Pat) (rest : List (Sign × Pat)) → pattern_nodes a ≤ pattern_nodes (chain a rest)
+chain_first a rest = omega (arith, nodes_chained a rest)
 
-  pub nodes_binder : (name : Name) (inner : PatternTree) → nodes (p.Binder name inner) ≡ nodes inner
-  nodes_binder name inner = ap pattern_nodes (expands_binder (sees text owner) (named_expansion text depth) None name inner)
+-- ---- variables count for nothing
 
-  pub nodes_unseen : (name : Name) (args : List PatternTree) → None ≡ sees text owner name.text → nodes (p.Sym name args) ≡ 1
-  nodes_unseen name args e =
-      ap pattern_nodes (expands_symbol (sees text owner) (named_expansion text depth) None name args)
-      ∙ ap (λ seen. pattern_nodes (at_name (named_expansion text depth) seen (map (inner_expansion text owner depth) args))) (sym e)
-      ∙ fold-roll-Pat ℕ pattern_nodes_level Pat-F.Any
+module _ (look : List ℕ → Option Seen) (named : ℕ → ℕ → Pat) (variables : List (List ℕ)) where
+  abbrev with_them : PatternTree → Pat
+  with_them = expansion_by look named (Some variables)
 
-  pub nodes_named : (name : Name) (args : List PatternTree) (m i : ℕ) → Some (SeenPattern m i) ≡ sees text owner name.text → nodes (p.Sym name args) ≡ pattern_nodes (named_expansion text depth m i)
-  nodes_named name args m i e =
-      ap pattern_nodes (expands_symbol (sees text owner) (named_expansion text depth) None name args)
-      ∙ ap (λ seen. pattern_nodes (at_name (named_expansion text depth) seen (map (inner_expansion text owner depth) args))) (sym e)
+  abbrev without : PatternTree → Pat
+  without = expansion_by look named None
 
-  pub nodes_symbol : (name : Name) (args : List PatternTree) (f : ℕ) (class : Class) → Some (SeenSymbol f class) ≡ sees text owner name.text → nodes (p.Sym name args) ≡ 1 + sum_by nodes args
-  nodes_symbol name args f class e =
-      ap pattern_nodes (expands_symbol (sees text owner) (named_expansion text depth) None name args)
-      ∙ ap (λ seen. pattern_nodes (at_name (named_expansion text depth) seen (map (inner_expansion text owner depth) args))) (sym e)
-      ∙ fold-roll-Pat ℕ pattern_nodes_level (Pat-F.Sym f (map (inner_expansion text owner depth) args))
-      ∙ ap (λ n. 1 + n) (sum-map pattern_nodes (map (inner_expansion text owner depth) args) ∙ sum_by-map pattern_nodes (inner_expansion text owner depth) args)
+  abbrev SameNodes : PatternTree → Type 0
+  SameNodes t = pattern_nodes (with_them t) ≡ pattern_nodes (without t)
 
-  pub nodes_chain : (first : PatternTree) (rest : List (Sign × PatternTree)) → nodes (p.Chain first rest) ≡ length rest + (nodes first + sum_by (link_nodes text owner depth) rest)
-  nodes_chain first rest =
-      let linked : Sign × PatternTree → Sign × Pat = λ l. (l.0, inner_expansion text owner depth l.1) in
-      ap pattern_nodes (expands_chain (sees text owner) (named_expansion text depth) None first rest)
-      ∙ nodes_chained (inner_expansion text owner depth first) (map linked rest)
-      ∙ ap (λ n. n + (nodes first + sum_by (λ l. pattern_nodes l.1) (map linked rest))) (length-map rest linked)
-      ∙ ap (λ n. length rest + (nodes first + n)) (sum_by-map (λ l. pattern_nodes l.1) linked rest)
+  same_sum : (ts : List PatternTree) → Each SameNodes ts → sum_by pattern_nodes (map with_them ts) ≡ sum_by pattern_nodes (map without ts)
+  same_sum [] all = refl
+  same_sum (t ∷ ts) all = omega (arith, sum_by-cons pattern_nodes (with_them t) (map with_them ts), sum_by-cons pattern_nodes (without t) (map without ts), all.0, same_sum ts all.1)
 
--- a named pattern is what its tree is without the variables before it
-pub at_tree : (text : Text) (depth m i : ℕ) (tree bare : PatternTree) → 0 < depth → Some tree ≡ named_pattern text m i
-    → ((look : List ℕ → Option Seen) (named : ℕ → ℕ → Pat) → expansion_by look named None bare ≡ expansion_by look named None tree)
-    → named_expansion text depth m i ≡ inner_expansion text m (depth - 1) bare
-at_tree text depth m i tree bare below found same =
-    named_more text depth m i below
-    ∙ ap (expansion_of (named_expansion text (depth - 1)) (sees text m)) (sym found)
-    ∙ sym (same (sees text m) (named_expansion text (depth - 1)))
+  same_named : (o : Option Seen) (ts : List PatternTree) → Each SameNodes ts → pattern_nodes (at_name named o (map with_them ts)) ≡ pattern_nodes (at_name named o (map without ts))
+  same_named None ts all = refl
+  same_named (Some (SeenSymbol f class)) ts all = omega (arith, nodes_symbol f (map with_them ts), nodes_symbol f (map without ts), same_sum ts all)
+  same_named (Some (SeenPattern m i)) ts all = refl
+
+  same_links : (a b : Pat) (rest : List (Sign × PatternTree)) → pattern_nodes a ≡ pattern_nodes b → EachLink SameNodes rest
+      → pattern_nodes (chain a (map (λ l. (l.0, with_them l.1)) rest)) ≡ pattern_nodes (chain b (map (λ l. (l.0, without l.1)) rest))
+  same_links a b [] same all = same
+  same_links a b (l ∷ rest) same all =
+      same_links (join l.0 a (with_them l.1)) (join l.0 b (without l.1)) rest (omega (arith, nodes_joined l.0 a (with_them l.1), nodes_joined l.0 b (without l.1), same, all.0)) all.1
+
+  pub same_nodes : (t : PatternTree) → SameNodes t
+  same_nodes = pattern_induction SameNodes (record {
+    any = subst SameNodes (sym rolls-Any) (ap pattern_nodes (fold_any (expansion_level look named (Some variables)) ∙ sym (fold_any (expansion_level look named None))));
+    int = subst SameNodes (sym rolls-Int) (ap pattern_nodes (fold_int (expansion_level look named (Some variables)) ∙ sym (fold_int (expansion_level look named None))));
+    integer = λ value. subst SameNodes (sym (rolls-Integer value)) (ap pattern_nodes (fold_integer (expansion_level look named (Some variables)) value ∙ sym (fold_integer (expansion_level look named None) value)));
+    symbol = λ name args all. subst SameNodes (sym (rolls-Sym name args))
+        (ap pattern_nodes (expands_symbol look named (Some variables) name args) ∙ same_named (look name.text) args all ∙ ap pattern_nodes (sym (expands_symbol look named None name args)));
+    variable = λ name. subst SameNodes (sym (rolls-Variable name))
+        (ap pattern_nodes (expands_variable look named (Some variables) name) ∙ nodes_bound (Some variables) name.text (roll-Pat Pat-F.Any) ∙ ap pattern_nodes (sym (expands_variable look named None name)));
+    binder = λ name inner same. subst SameNodes (sym (rolls-Binder name inner))
+        (ap pattern_nodes (expands_binder look named (Some variables) name inner) ∙ nodes_bound (Some variables) name.text (with_them inner) ∙ same ∙ ap pattern_nodes (sym (expands_binder look named None name inner)));
+    chain = λ first rest same all. subst SameNodes (sym (rolls-Chain first rest))
+        (ap pattern_nodes (expands_chain look named (Some variables) first rest) ∙ same_links (with_them first) (without first) rest same all ∙ ap pattern_nodes (sym (expands_chain look named None first rest)));
+  })

@@ -1,23 +1,26 @@
 -- The faults that a walk finds are those that the definitions say.
-use Rattle.std.proofs.Common.{◌≡◌, ℕ, ◌<◌, Bool, true, false, List, [], ◌∷◌, ◌++◌, map, length, Some, None, refl, sym, ap, ◌∙◌, append_assoc, arith}
-use Rattle.std.specs.Prelude.{not, ◌&&◌, ◌||◌, filter, nat_lt, if◌then◌else◌}
+use Rattle.std.proofs.Common.{◌≡◌, ℕ, ◌<◌, ◌≤◌, Bool, true, false, List, [], ◌∷◌, ◌++◌, map, length, Option, Some, None, refl, sym, ap, ◌∙◌, subst, append_assoc, arith}
+use Rattle.std.specs.Prelude.{not, ◌&&◌, ◌||◌, filter, nat_lt, is_some, Contains, IfSome, if◌then◌else◌}
 use Rattle.std.specs.List.{flat_map}
 use Rattle.std.specs.Str.{bytes_eq}
+use Rattle.std.proofs.lemmas.List.Elements.{Contains-append_left, Contains-append_right}
 use Rattle.dactl_base.specs.declared.refusal.Place.{Place}
 use Rattle.dactl_base.specs.declared.refusal.Kind.TheVariants as kinds
 use Rattle.dactl_base.specs.declared.refusal.Refusal.{Refusal}
+use Rattle.dactl_model.specs.declared.program.Pat.{Pat}
 use Rattle.dactl_syntax.specs.declared.tree.Name.{Name}
 use Rattle.dactl_syntax.specs.declared.tree.PatternTree.{PatternTree}
 use Rattle.dactl_syntax.specs.declared.tree.Text.{Text}
-use Rattle.dactl_syntax.specs.Expansion.{Occurrence, is_among, each_once, occurrences, variables_of, named_count, pattern_nodes, pattern_expansion}
+use Rattle.dactl_syntax.specs.Sight.{sees}
+use Rattle.dactl_syntax.specs.Expansion.{Occurrence, is_among, each_once, occurrences, variables_of, named_count, named_expansion, expansion_by, pattern_nodes, pattern_expansion}
 use Rattle.dactl_syntax.specs.RuleFaults.{again, place_of, each_at, at_if, is_too_wide, binders_in_choice, named_twice_in_pattern, wide_in_pattern, pattern_faults}
 use Rattle.dactl_patterns.specs.declared.occurrences.Occurrence as code
 use Rattle.dactl_patterns.specs.Occurring.{seen}
-use Rattle.dactl_patterns.specs.Expanding.{numbered, expansion}
-use Rattle.dactl_patterns.specs.Expanded.{expansion_as}
 use Rattle.dactl_patterns.specs.Naming.{names_in, with_name}
 use Rattle.dactl_patterns.specs.TreeFaults.{fault_if, binder_fault, twice_faults, faults_with}
+use Rattle.dactl_patterns.specs.Expanded.{expansion_as, variables_counted, is_wide, IsExpansion}
 use Rattle.dactl_patterns.proofs.Distinct.{among-push}
+use Rattle.dactl_patterns.proofs.Expansions.{same_nodes}
 
 binders_are : (named : Bool) (os : List Occurrence) → flat_map (binder_fault named) os ≡ each_at kinds.BinderInChoice (map (λ o. place_of o.name) (filter (λ o. named || o.in_choice) os))
 binders_are named [] = refl
@@ -95,19 +98,68 @@ pub faults_found : (text : Text) (owner : ℕ) (named large : Bool) (place : Pla
 faults_found text owner named large place tree xs ys same found is =
     ap (faults_with large named place tree) (ap (map seen) same ∙ found) ∙ faults_are text owner named large place tree is
 
-right_false : (a b : Bool) → (a || (true && b)) ≡ false → b ≡ false
-right_false true b e = cc
-right_false false b e = e
+-- ---- the expansion
 
--- so few variables have a pattern without faults
-pub few : (text : Text) (owner : ℕ) (named large : Bool) (tree : PatternTree) → large ≡ is_too_wide named (pattern_expansion text owner tree) tree → large ≡ false → (named ≡ true → occurrences tree ≡ []) → length (variables_of tree) < 256
-few text owner true large tree is narrow unbound =
-    let none : length (variables_of tree) ≡ 0 = ap (λ os. length (each_once (map (λ o. o.name.text) os))) (unbound refl) in
-    omega (arith, none)
-few text owner false large tree is narrow unbound =
-    let test : nat_lt 64 (length (variables_of tree)) ≡ false = right_false (nat_lt 64 (pattern_nodes (pattern_expansion text owner tree))) (nat_lt 64 (length (variables_of tree))) (sym is ∙ narrow) in
-    grind arith
+pub counted_is : (text : Text) (owner : ℕ) (named : Bool) (tree : PatternTree) (variables : List (List ℕ)) (o : Option (List (List ℕ))) → o ≡ variables_counted named variables → variables ≡ variables_of tree
+    → expansion_by (sees text owner) (named_expansion text (named_count text)) o tree ≡ expansion_as named text owner tree
+counted_is text owner true tree variables o is same = ap (λ v. expansion_by (sees text owner) (named_expansion text (named_count text)) v tree) is
+counted_is text owner false tree variables o is same = ap (λ v. expansion_by (sees text owner) (named_expansion text (named_count text)) v tree) (is ∙ ap Some same)
 
-pub expanded : (text : Text) (owner depth : ℕ) (named : Bool) (tree : PatternTree) (variables : List (List ℕ)) → depth ≡ named_count text → variables ≡ variables_of tree → expansion text owner depth (numbered (not named) variables) tree ≡ expansion_as named text owner tree
-expanded text owner depth true tree variables deep same = ap (λ d. expansion text owner d None tree) deep
-expanded text owner depth false tree variables deep same = ap (λ d. expansion text owner d (Some variables) tree) deep ∙ ap (λ v. expansion text owner (named_count text) (Some v) tree) same
+pub counted_few : (named : Bool) (variables : List (List ℕ)) (o : Option (List (List ℕ))) → o ≡ variables_counted named variables → (not named && nat_lt 64 (length variables)) ≡ false → IfSome o (λ v. length v < 256)
+counted_few true variables o is few = subst (λ (z : Option (List (List ℕ))). IfSome z (λ v. length v < 256)) (sym is) tt
+counted_few false variables o is few = subst (λ (z : Option (List (List ℕ))). IfSome z (λ v. length v < 256)) (sym is) (below (length variables) few)
+  where
+    below : (n : ℕ) → nat_lt 64 n ≡ false → n < 256
+    below n test = grind arith
+
+nodes_as : (text : Text) (owner : ℕ) (named : Bool) (tree : PatternTree) → pattern_nodes (expansion_as named text owner tree) ≡ pattern_nodes (pattern_expansion text owner tree)
+nodes_as text owner true tree = refl
+nodes_as text owner false tree = same_nodes (sees text owner) (named_expansion text (named_count text)) (variables_of tree) tree
+
+or_true : (a : Bool) → (a || true) ≡ true
+or_true true = refl
+or_true false = refl
+
+-- too many variables, or too many nodes
+pub many_wide : (text : Text) (owner : ℕ) (named : Bool) (tree : PatternTree) (variables : List (List ℕ)) → variables ≡ variables_of tree → (not named && nat_lt 64 (length variables)) ≡ true → is_wide text owner named tree ≡ true
+many_wide text owner named tree variables same many =
+    let nodes = nat_lt 64 (pattern_nodes (pattern_expansion text owner tree)) in
+    ap (λ (v : List (List ℕ)). nodes || (not named && nat_lt 64 (length v))) (sym same) ∙ ap (λ (b : Bool). nodes || b) many ∙ or_true nodes
+
+above : (n : ℕ) → 64 < n → nat_lt 64 n ≡ true
+above n less = grind arith
+
+not_above : (n : ℕ) → n ≤ 64 → nat_lt 64 n ≡ false
+not_above n le = grind arith
+
+pub large_wide : (text : Text) (owner : ℕ) (named : Bool) (tree : PatternTree) (p : Pat) → p ≡ expansion_as named text owner tree → 64 < pattern_nodes p → is_wide text owner named tree ≡ true
+large_wide text owner named tree p is large =
+    let nodes : pattern_nodes p ≡ pattern_nodes (pattern_expansion text owner tree) = ap pattern_nodes is ∙ nodes_as text owner named tree in
+    ap (λ (b : Bool). b || (not named && nat_lt 64 (length (variables_of tree)))) (above (pattern_nodes (pattern_expansion text owner tree)) (omega arith))
+
+pub small_narrow : (text : Text) (owner : ℕ) (named : Bool) (tree : PatternTree) (variables : List (List ℕ)) (p : Pat) → variables ≡ variables_of tree → (not named && nat_lt 64 (length variables)) ≡ false → p ≡ expansion_as named text owner tree
+    → pattern_nodes p ≤ 64 → is_wide text owner named tree ≡ false
+small_narrow text owner named tree variables p same few is small =
+    let nodes : pattern_nodes p ≡ pattern_nodes (pattern_expansion text owner tree) = ap pattern_nodes is ∙ nodes_as text owner named tree in
+    ap (λ (b : Bool). b || (not named && nat_lt 64 (length (variables_of tree)))) (not_above (pattern_nodes (pattern_expansion text owner tree)) (omega arith))
+    ∙ ap (λ (v : List (List ℕ)). not named && nat_lt 64 (length v)) (sym same) ∙ few
+
+-- a pattern has no expansion just where it is too wide
+pub none_wide : (text : Text) (owner : ℕ) (named : Bool) (tree : PatternTree) (o : Option Pat) (none : Bool) → is_some o ≡ not none → IsExpansion text owner named tree o → none ≡ is_wide text owner named tree
+none_wide text owner named tree None true is wide = sym wide
+none_wide text owner named tree None false is wide = cc
+none_wide text owner named tree (Some p) true is narrow = cc
+none_wide text owner named tree (Some p) false is narrow = sym narrow.0
+
+one_is : (x : Refusal) → Contains (x ∷ []) x
+one_is x = (0, (omega arith), refl)
+
+-- a pattern that is too wide has a fault at its place
+pub wide_there : (text : Text) (owner : ℕ) (named : Bool) (place : Place) (tree : PatternTree) → is_wide text owner named tree ≡ true
+    → Contains (pattern_faults text owner named place.byte tree) (record { kind = kinds.TooWide; place = place })
+wide_there text owner named place tree wide =
+    let fault : Refusal = record { kind = kinds.TooWide; place = place } in
+    let before = each_at kinds.BinderInChoice (binders_in_choice named tree) ++ each_at kinds.TooWide (wide_in_pattern tree) in
+    let here = each_at kinds.TooWide (at_if (is_wide text owner named tree) place.byte) in
+    Contains-append_left (before ++ here) (each_at kinds.NamedTwice (named_twice_in_pattern tree)) fault
+    (Contains-append_right before here fault (subst (λ (z : Bool). Contains (each_at kinds.TooWide (at_if z place.byte)) fault) (sym wide) (one_is fault)))

@@ -11,11 +11,10 @@ use Rattle.dactl_syntax.specs.declared.tree.Sign.TheVariants as signs
 use Rattle.dactl_syntax.specs.declared.tree.PatternTree.{PatternTree}
 use Rattle.dactl_syntax.specs.declared.tree.PatternTree.TheVariants as p
 use Rattle.dactl_syntax.specs.declared.tree.PatternTree.TheOpen.{PatternTree-F}
-use Rattle.dactl_syntax.specs.Sight.{Seen, SeenSymbol, SeenPattern}
+use Rattle.dactl_syntax.specs.Sight.{Seen}
 use Rattle.dactl_syntax.specs.Expansion.{is_plus, has_plus, at_name, at_variable, join, chain, expansion_level, expansion_by}
 use Rattle.dactl_patterns.proofs.Trees.{fold_symbol, fold_variable, fold_binder, fold_chain, fold_any, fold_int, fold_integer}
 use Rattle.dactl_patterns.proofs.Layers.{plus_kept}
-use Rattle.dactl_patterns.specs.Chains.{head_seen}
 
 -- ---- one layer of an expansion
 
@@ -33,11 +32,6 @@ head_chain a [] = refl
 head_chain a (l ∷ rest) =
     head_chain (join l.0 a l.1) rest ∙ ap (λ (o : Option ℕ). if has_plus rest then None else o) (head_joined l.0 a l.1)
     ∙ plus_by (is_plus l.0) (has_plus rest) (head a)
-
-head_named : (expansion : ℕ → ℕ → Pat) (o : Option Seen) (args : List Pat) → head (at_name expansion o args) ≡ head_seen expansion o
-head_named expansion None args = fold-roll-Pat (Option ℕ) head_level Pat-F.Any
-head_named expansion (Some (SeenSymbol f class)) args = fold-roll-Pat (Option ℕ) head_level (Pat-F.Sym f args)
-head_named expansion (Some (SeenPattern m i)) args = refl
 
 head_bound : (variables : Option (List (List ℕ))) (x : List ℕ) (a : Pat) → head (at_variable variables x a) ≡ head a
 head_bound None x a = refl
@@ -64,8 +58,8 @@ module _ (look : List ℕ → Option Seen) (expansion : ℕ → ℕ → Pat) (va
   pub head_variable : (name : Name) → head (of (p.Variable name)) ≡ None
   head_variable name = ap head (fold_variable level name) ∙ head_bound variables name.text (roll-Pat Pat-F.Any) ∙ fold-roll-Pat (Option ℕ) head_level Pat-F.Any
 
-  pub head_symbol : (name : Name) (args : List PatternTree) → head (of (p.Sym name args)) ≡ head_seen expansion (look name.text)
-  head_symbol name args = ap head (fold_symbol level name args) ∙ head_named expansion (look name.text) (map of args)
+  pub head_symbol : (name : Name) (args : List PatternTree) → head (of (p.Sym name args)) ≡ head (at_name expansion (look name.text) (map of args))
+  head_symbol name args = ap head (fold_symbol level name args)
 
   pub head_binder : (name : Name) (inner : PatternTree) → head (of (p.Binder name inner)) ≡ head (of inner)
   head_binder name inner = ap head (fold_binder level name inner) ∙ head_bound variables name.text (of inner)

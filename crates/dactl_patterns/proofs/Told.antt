@@ -29,21 +29,6 @@ tells_list faults =
     (λ r has. (has.0, r, has.1, has.2, refl))
     (tells-least_by (λ x r. x ≡ r) Some (λ x. record { holds = refl; least = λ other e before. not_before_itself x (let P : Refusal → Type 0 = λ z. Precedes z x in subst P (sym e) before) }) faults)
 
--- where no fault is contained, none holds
-pub narrow : (large : Bool) (place : Place) (xs ys zs : List Refusal) → NoFault (Contains (xs ++ (ys ++ (fault_if large kinds.TooWide place ++ zs)))) → large ≡ false
-narrow false place xs ys zs none = refl
-narrow true place xs ys zs none =
-    let fault : Refusal = record { kind = kinds.TooWide; place = place } in
-    let first : Contains (fault ∷ zs) fault = (0, (omega arith), refl) in
-    absurd (none fault (Contains-append_right xs (ys ++ (fault ∷ zs)) fault (Contains-append_right ys (fault ∷ zs) fault first)))
-
--- in a named pattern without faults no variable stands
-pub unbound : (os : List Occurrence) (ys : List Refusal) → NoFault (Contains (flat_map (binder_fault true) os ++ ys)) → os ≡ []
-unbound [] ys none = refl
-unbound (o ∷ os) ys none =
-    let fault : Refusal = record { kind = kinds.BinderInChoice; place = o.name.place } in
-    absurd (none fault (0, (omega arith), refl))
-
 -- one step of a search for the first fault of a list
 pub told_more : (faults : List Refusal) (i : ℕ) (d : Refusal) (so_far next : Option Refusal) → i < length faults → so_far ≡ least_by Some (take i faults) → next ≡ sooner so_far (Some (get_or faults i d)) → next ≡ least_by Some (take (i + 1) faults)
 told_more faults i d so_far next below so step =

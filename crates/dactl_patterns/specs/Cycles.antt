@@ -6,7 +6,7 @@ use Rattle.dactl_syntax.specs.declared.tree.Item.{Item}
 use Rattle.dactl_syntax.specs.declared.tree.Item.TheVariants as item
 use Rattle.dactl_syntax.specs.declared.tree.Module.{Module}
 use Rattle.dactl_syntax.specs.declared.tree.Text.{Text}
-use Rattle.dactl_patterns.specs.declared.cycling.Declared.{Declared}
+use Rattle.dactl_patterns.specs.declared.declarations.Declared.{Declared}
 use Rattle.dactl_patterns.specs.Cycling.{ReachesItself}
 
 -- the named pattern that the item is, by the numbers of its module and its own

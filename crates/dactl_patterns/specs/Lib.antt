@@ -1,12 +1,9 @@
 pub mod Occurring
 pub mod Naming
 pub mod TreeFaults
-pub mod Standing
-pub mod Expanding
-pub mod Expanded
 pub mod Cycling
 pub mod Cycles
 pub mod Levels
-pub mod Chains
-pub mod Leads
-pub mod NamedPatterns
+pub mod Table
+pub mod Expanding
+pub mod Expanded

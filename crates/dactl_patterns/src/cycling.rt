@@ -1,70 +1,22 @@
 //! Named patterns that reach themselves.
 
-ghost use Rattle.std.specs.Prelude.{◌≡◌, ◌↔◌, ◌++◌, IsTrue, OnOk, IfOk};
-ghost use Rattle.dactl_syntax.specs.Faults.{TellsFaults};
-ghost use Rattle.dactl_syntax.specs.Meaning.{CycleFault};
+ghost use Rattle.std.specs.Prelude.{◌≡◌, ◌↔◌, IsTrue, OnOk, IfOk};
 ghost use Rattle.dactl_symbols.specs.Least.{TellsLeast};
 ghost use Rattle.dactl_symbols.specs.Scoping.{IsScopesOf};
 ghost use Rattle.dactl_patterns.specs.Cycling as spec;
 ghost use Rattle.dactl_patterns.specs.Levels.{IsDescending, level_in};
-ghost use Rattle.dactl_patterns.specs.Cycles.{declared_at, declared_from, all_declared, DeclaredCycle, SomeCycle, stands_behind};
+ghost use Rattle.dactl_patterns.specs.Cycles.{DeclaredCycle, SomeCycle, stands_behind};
 
-use crate::levels::{is_free, levels};
+use crate::declarations::Declared;
+use crate::levels::is_free;
 use crate::uses::named_from;
-use dactl_base::refusal::{Kind, Place, Refusal, TextFault};
+use dactl_base::refusal::{Kind, Refusal};
 use dactl_model::Memory;
 use dactl_symbols::least::lesser;
 use dactl_symbols::sight::Scopes;
-use dactl_syntax::tree::{Item, Text};
+use dactl_syntax::tree::Text;
 use indexmap::{IndexMap, IndexSet};
 use std::alloc::Global;
-
-/// A named pattern of a text: the numbers of its module and of its item there, and where its name
-/// stands.
-#[derive(Clone, Copy)]
-pub struct Declared {
-    pub owner: usize,
-    pub item: usize,
-    pub place: Place,
-}
-
-fn note_declared(
-    found: &mut Vec<Declared>,
-    owner: usize,
-    number: usize,
-    item: &Item,
-) -> Result<(), Memory>
-    ensures { OnOk result (found.new.items ≡ found.old.items ++ declared_at owner number item.now) }
-{
-    if let Item::Named { name, .. } = item {
-        found.push(Declared {
-            owner,
-            item: number,
-            place: name.place,
-        })?;
-    }
-    Ok(())
-}
-
-fn declared_in(found: &mut Vec<Declared>, owner: usize, items: &[Item]) -> Result<(), Memory>
-    ensures { OnOk result (found.new.items ≡ found.old.items ++ declared_from owner 0 items.now) }
-{
-    for (number, item) in items.iter().enumerate() {
-        note_declared(found, owner, number, item)?;
-    }
-    Ok(())
-}
-
-/// The named patterns of the text, in text order.
-fn declarations(alloc: Global, text: &Text) -> Result<Vec<Declared>, Memory>
-    ensures { IfOk result (λ found. found.items ≡ all_declared 0 text.now.modules) }
-{
-    let mut found = Vec::new(alloc);
-    for (owner, module) in text.modules.as_slice().iter().enumerate() {
-        declared_in(&mut found, owner, module.items.as_slice())?;
-    }
-    Ok(found)
-}
 
 fn gain(reached: &mut IndexSet<(usize, usize)>, names: &[(usize, usize)]) -> Result<(), Memory>
     ensures { OnOk result (spec.Gains reached.old.keys names.now reached.new.keys) }
@@ -133,7 +85,8 @@ fn is_behind(pattern: Declared, fault: Option<Refusal>) -> bool
     }
 }
 
-fn first_cycle(
+/// The fault of the first of the named patterns that reaches itself.
+pub fn first_cycle(
     alloc: Global,
     text: &Text,
     scopes: &Scopes,
@@ -153,18 +106,4 @@ fn first_cycle(
         first = lesser(first, here);
     }
     Ok(first)
-}
-
-/// Looks for named patterns that reach themselves through named patterns, and refuses the text for
-/// the one of them whose name stands first.
-pub fn cycles(alloc: Global, text: &Text, scopes: &Scopes) -> Result<(), TextFault>
-    requires { IsScopesOf text.now scopes.now }
-    ensures { TellsFaults (CycleFault text.now) result }
-{
-    let patterns = declarations(alloc, text)?;
-    let levels = levels(alloc, text, scopes, patterns.as_slice())?;
-    match first_cycle(alloc, text, scopes, &levels, patterns.as_slice())? {
-        Some(refusal) => Err(TextFault::Refused(refusal)),
-        None => Ok(()),
-    }
 }

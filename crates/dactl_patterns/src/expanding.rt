@@ -1,163 +1,246 @@
-//! The expansion of a pattern.
+//! The expansion of a pattern, as far as it is small.
 
-ghost use Rattle.std.specs.Prelude.{◌≡◌, ◌<◌, length, map, IfOk};
-ghost use Rattle.dactl_syntax.specs.Sight.{sees};
-ghost use Rattle.dactl_syntax.specs.Expansion as spec;
-ghost use Rattle.dactl_patterns.specs.Expanding.{numbered, expansion, link_expansion};
-ghost use Rattle.dactl_patterns.specs.NamedPatterns.{AreNamed};
+ghost use Rattle.std.specs.Prelude.{◌≡◌, ℕ, ◌+◌, ◌≤◌, ◌<◌, ◌^◌, IfOk, IfSome};
+ghost use Rattle.std.specs.Option.{option_copied};
+ghost use Rattle.dactl_model.specs.declared.program.Pat.{Pat};
+ghost use Rattle.dactl_syntax.specs.Expansion as expansion;
+ghost use Rattle.dactl_syntax.specs.Expansion.{pattern_nodes};
+ghost use Rattle.dactl_patterns.specs.Table.{IsKnown, IsRight, IsWithin};
+ghost use Rattle.dactl_patterns.specs.Expanding as spec;
 
-use crate::named::NamedPatterns;
+use crate::copying::copied;
+use crate::lookups::seen;
+use crate::named::{Known, NamedPatterns};
 use crate::names::number;
-use crate::standing::{resolved, seen};
 use dactl_model::Memory;
 use dactl_model::program::Pat;
 use dactl_symbols::sight::Seen;
 use dactl_syntax::tree::{Name, PatternTree, Sign};
 use sqlite_items::{Boxed, Items};
-use std::alloc::Global;
+use std::alloc::{AllocError, Global};
 
-fn at_variable(
-    alloc: Global,
-    variables: &[Items<u8>],
-    bound: bool,
-    name: &Name,
-    inner: Pat,
-) -> Result<Pat, Memory>
-    requires { length variables.now < 256 }
-    ensures { IfOk result (λ p. p ≡ spec.at_variable (numbered bound variables.now) name.now.text inner) }
-{
-    if bound {
-        let var = number(variables, name.text.as_slice()) as u8;
-        let inner = Boxed::new(alloc, inner)?;
-        Ok(Pat::Bind { var, inner })
-    } else {
-        Ok(inner)
-    }
+/// A pattern, and how many nodes it has; binders don't count.
+#[derive(Drop)]
+pub struct Small {
+    pub pat: Pat,
+    pub nodes: usize,
 }
 
-fn join(alloc: Global, sign: Sign, left: Pat, right: Pat) -> Result<Pat, Memory>
-    ensures { IfOk result (λ p. p ≡ spec.join sign left right) }
-{
-    let left = Boxed::new(alloc, left)?;
-    let right = Boxed::new(alloc, right)?;
-    match sign {
-        Sign::Plus => Ok(Pat::Union { left, right }),
-        Sign::Minus => Ok(Pat::Less { left, right }),
-    }
+/// Patterns, and how many nodes they have together.
+#[derive(Drop)]
+struct SmallList {
+    pats: Items<Pat>,
+    nodes: usize,
 }
 
-/// The expansion of the pattern, with at most `depth` named patterns one inside another. Variables
-/// are numbered by their places in the list where `bound` says so, and otherwise left out.
-#[cycle(expanding)]
-pub fn expand(
-    alloc: Global,
-    patterns: &NamedPatterns,
-    variables: &[Items<u8>],
-    bound: bool,
-    owner: usize,
-    depth: usize,
-    tree: &PatternTree,
-) -> Result<Pat, Memory>
-    requires patterns { AreNamed patterns.now }
-    requires few { length variables.now < 256 }
-    ensures { IfOk result (λ p. p ≡ expansion patterns.now.text.now owner depth (numbered bound variables.now) tree.now) }
+/// What patterns of a module are expanded by: what is known of named patterns, the number of the
+/// module, and the names whose places are the numbers of variables; `None` leaves variables out.
+#[derive(Drop)]
+pub struct Expander<'a> {
+    pub alloc: Global,
+    pub patterns: &'a NamedPatterns<'a>,
+    pub owner: usize,
+    pub variables: Option<&'a [Items<u8>]>,
+}
+
+/// A pattern of one node.
+fn leaf(pat: Pat, most: usize) -> Option<Small>
+    ensures within { IfSome result (λ s. s.nodes ≤ most) }
+    ensures is { pattern_nodes pat ≡ 1 → IsWithin most pat result }
 {
-    match tree {
-        PatternTree::Any => Ok(Pat::Any),
-        PatternTree::Int => Ok(Pat::Int),
-        PatternTree::Integer { value } => Ok(Pat::Literal(*value)),
-        PatternTree::Variable { name } => at_variable(alloc, variables, bound, name, Pat::Any),
-        PatternTree::Binder { name, inner } => {
-            let inner = expand(alloc, patterns, variables, bound, owner, depth, inner.get())?;
-            at_variable(alloc, variables, bound, name, inner)
+    if most == 0 {
+        return None;
+    }
+    Some(Small { pat, nodes: 1 })
+}
+
+fn joined(alloc: Global, sign: Sign, left: Small, right: Small) -> Result<Small, Memory>
+    requires { left.nodes + right.nodes < 2 ^ 63 }
+    ensures pat { IfOk result (λ s. s.pat ≡ expansion.join sign left.pat right.pat) }
+    ensures nodes { IfOk result (λ s. s.nodes ≡ 1 + (left.nodes + right.nodes)) }
+{
+    let nodes = 1 + (left.nodes + right.nodes);
+    let left = Boxed::new(alloc, left.pat)?;
+    let right = Boxed::new(alloc, right.pat)?;
+    let pat = match sign {
+        Sign::Plus => Pat::Union { left, right },
+        Sign::Minus => Pat::Less { left, right },
+    };
+    Ok(Small { pat, nodes })
+}
+
+/// The expansion of the named pattern, if it has at most so many nodes.
+fn taken(alloc: Global, known: &Known, most: usize) -> Result<Option<Small>, Memory>
+    requires { most ≤ 64 }
+    ensures within { IfOk result (λ r. IfSome r (λ s. s.nodes ≤ most)) }
+    ensures is { IfOk result (λ r. (p : Pat) → IsKnown p known.now → IsWithin most p r) }
+{
+    match &known.small {
+        Some(small) => {
+            if small.nodes > most {
+                return Ok(None);
+            }
+            let pat = copied(alloc, &small.pat)?;
+            Ok(Some(Small {
+                pat,
+                nodes: small.nodes,
+            }))
         }
-        PatternTree::Sym { name, args } => match seen(patterns.text, patterns.scopes, owner, name) {
-            Some(Seen::Symbol { id, .. }) => {
-                let args = expand_arguments(
-                    alloc,
-                    patterns,
-                    variables,
-                    bound,
-                    owner,
-                    depth,
-                    args.as_slice(),
-                )?;
-                Ok(Pat::Sym { symbol: id, args })
+        None => Ok(None),
+    }
+}
+
+impl Expander<'_> {
+    /// The pattern with the variable's name before it, where variables count.
+    fn bound(&self, name: &Name, inner: Small) -> Result<Small, Memory>
+        requires { spec.IsReady self.now }
+        ensures pat { IfOk result (λ s. s.pat ≡ expansion.at_variable (option_copied self.now.variables) name.now.text inner.pat) }
+        ensures nodes { IfOk result (λ s. s.nodes ≡ inner.nodes) }
+    {
+        match self.variables {
+            None => Ok(inner),
+            Some(names) => {
+                let var = number(names, name.text.as_slice()) as u8;
+                let Small { pat, nodes } = inner;
+                let inner = Boxed::new(self.alloc, pat)?;
+                Ok(Small {
+                    pat: Pat::Bind { var, inner },
+                    nodes,
+                })
             }
-            Some(Seen::Pattern { module, item }) => {
-                match resolved(patterns, module, item, depth) {
-                    Some(inner) => expand(
-                        alloc,
-                        patterns,
-                        variables,
-                        false,
-                        inner.owner,
-                        inner.depth,
-                        inner.tree,
-                    ),
-                    None => Ok(Pat::Any),
-                }
-            }
-            None => Ok(Pat::Any),
-        },
-        PatternTree::Chain { first, rest } => {
-            let first = expand(alloc, patterns, variables, bound, owner, depth, first.get())?;
-            expand_links(
-                alloc,
-                patterns,
-                variables,
-                bound,
-                owner,
-                depth,
-                first,
-                rest.as_slice(),
-            )
         }
     }
-}
 
-#[cycle(expanding)]
-fn expand_arguments(
-    alloc: Global,
-    patterns: &NamedPatterns,
-    variables: &[Items<u8>],
-    bound: bool,
-    owner: usize,
-    depth: usize,
-    args: &[PatternTree],
-) -> Result<Items<Pat>, Memory>
-    requires patterns { AreNamed patterns.now }
-    requires few { length variables.now < 256 }
-    ensures { IfOk result (λ ps. ps ≡ map (expansion patterns.now.text.now owner depth (numbered bound variables.now)) args.now) }
-{
-    let mut expanded = Items::new(alloc);
-    for argument in args {
-        let pattern = expand(alloc, patterns, variables, bound, owner, depth, argument)?;
-        expanded.push(pattern)?;
+    /// The expansion of a named pattern, if it has at most so many nodes.
+    fn pattern(&self, module: usize, item: usize, most: usize) -> Result<Option<Small>, Memory>
+        requires { most ≤ 64 }
+        ensures within { IfOk result (λ r. IfSome r (λ s. s.nodes ≤ most)) }
+        ensures is { IfOk result (λ r. (named : ℕ → ℕ → Pat) → IsRight named self.now.patterns.now → IsWithin most (named «module» item) r) }
+    {
+        match self.patterns.known.get(&(module, item)) {
+            Some(known) => taken(self.alloc, known, most),
+            None => Err(AllocError),
+        }
     }
-    Ok(expanded)
-}
 
-/// Folds the links of a chain onto its first pattern, to the left.
-#[cycle(expanding)]
-fn expand_links(
-    alloc: Global,
-    patterns: &NamedPatterns,
-    variables: &[Items<u8>],
-    bound: bool,
-    owner: usize,
-    depth: usize,
-    first: Pat,
-    rest: &[(Sign, PatternTree)],
-) -> Result<Pat, Memory>
-    requires patterns { AreNamed patterns.now }
-    requires few { length variables.now < 256 }
-    ensures { IfOk result (λ p. p ≡ spec.chain first (map (link_expansion patterns.now.text.now owner depth (numbered bound variables.now)) rest.now)) }
-{
-    let mut folded = first;
-    for link in rest {
-        let right = expand(alloc, patterns, variables, bound, owner, depth, &link.1)?;
-        folded = join(alloc, link.0, folded, right)?;
+    /// The expansion of the pattern, if it has at most so many nodes. A named pattern that isn't
+    /// known is want of memory.
+    #[cycle(expanding)]
+    pub fn expand(&self, tree: &PatternTree, most: usize) -> Result<Option<Small>, Memory>
+        requires ready { spec.IsReady self.now }
+        requires few { most ≤ 64 }
+        ensures within { IfOk result (λ r. IfSome r (λ s. s.nodes ≤ most)) }
+        ensures is { IfOk result (spec.Expands self.now most tree.now) }
+    {
+        match tree {
+            PatternTree::Any => Ok(leaf(Pat::Any, most)),
+            PatternTree::Int => Ok(leaf(Pat::Int, most)),
+            PatternTree::Integer { value } => Ok(leaf(Pat::Literal(*value), most)),
+            PatternTree::Variable { name } => match leaf(Pat::Any, most) {
+                Some(inner) => Ok(Some(self.bound(name, inner)?)),
+                None => Ok(None),
+            },
+            PatternTree::Binder { name, inner } => match self.expand(inner.get(), most)? {
+                Some(inner) => Ok(Some(self.bound(name, inner)?)),
+                None => Ok(None),
+            },
+            PatternTree::Sym { name, args } => self.at_name(name, args.as_slice(), most),
+            PatternTree::Chain { first, rest } => match self.expand(first.get(), most)? {
+                Some(first) => self.chain(first, rest.as_slice(), most),
+                None => Ok(None),
+            },
+        }
     }
-    Ok(folded)
+
+    #[cycle(expanding)]
+    fn at_name(
+        &self,
+        name: &Name,
+        args: &[PatternTree],
+        most: usize,
+    ) -> Result<Option<Small>, Memory>
+        requires ready { spec.IsReady self.now }
+        requires few { most ≤ 64 }
+        ensures within { IfOk result (λ r. IfSome r (λ s. s.nodes ≤ most)) }
+        ensures is { IfOk result (spec.ExpandsName self.now most name.now.text args.now) }
+    {
+        match seen(self.patterns.text, self.patterns.scopes, self.owner, name) {
+            Some(Seen::Symbol { id, .. }) => self.symbol(id, args, most),
+            Some(Seen::Pattern { module, item }) => self.pattern(module, item, most),
+            None => Ok(leaf(Pat::Any, most)),
+        }
+    }
+
+    #[cycle(expanding)]
+    fn symbol(
+        &self,
+        symbol: u32,
+        args: &[PatternTree],
+        most: usize,
+    ) -> Result<Option<Small>, Memory>
+        requires ready { spec.IsReady self.now }
+        requires few { most ≤ 64 }
+        ensures within { IfOk result (λ r. IfSome r (λ s. s.nodes ≤ most)) }
+        ensures is { IfOk result (spec.ExpandsSymbol self.now most symbol args.now) }
+    {
+        if most == 0 {
+            return Ok(None);
+        }
+        match self.arguments(args, most - 1)? {
+            Some(list) => Ok(Some(Small {
+                pat: Pat::Sym {
+                    symbol,
+                    args: list.pats,
+                },
+                nodes: 1 + list.nodes,
+            })),
+            None => Ok(None),
+        }
+    }
+
+    #[cycle(expanding)]
+    fn arguments(&self, args: &[PatternTree], most: usize) -> Result<Option<SmallList>, Memory>
+        requires ready { spec.IsReady self.now }
+        requires few { most ≤ 64 }
+        ensures within { IfOk result (λ r. IfSome r (λ l. l.nodes ≤ most)) }
+        ensures are { IfOk result (spec.ExpandsAll self.now most args.now) }
+    {
+        let mut pats = Items::new(self.alloc);
+        let mut nodes = 0;
+        for argument in args {
+            let Some(small) = self.expand(argument, most - nodes)? else {
+                return Ok(None);
+            };
+            pats.push(small.pat)?;
+            nodes += small.nodes;
+        }
+        Ok(Some(SmallList { pats, nodes }))
+    }
+
+    /// Folds the links of a chain onto its first pattern, to the left.
+    #[cycle(expanding)]
+    fn chain(
+        &self,
+        first: Small,
+        rest: &[(Sign, PatternTree)],
+        most: usize,
+    ) -> Result<Option<Small>, Memory>
+        requires ready { spec.IsReady self.now }
+        requires few { most ≤ 64 }
+        requires first { first.nodes ≤ most }
+        ensures within { IfOk result (λ r. IfSome r (λ s. s.nodes ≤ most)) }
+        ensures is { IfOk result (spec.ExpandsChain self.now most first rest.now) }
+    {
+        let mut folded = first;
+        for link in rest {
+            if folded.nodes == most {
+                return Ok(None);
+            }
+            let Some(right) = self.expand(&link.1, most - folded.nodes - 1)? else {
+                return Ok(None);
+            };
+            folded = joined(self.alloc, link.0, folded, right)?;
+        }
+        Ok(Some(folded))
+    }
 }

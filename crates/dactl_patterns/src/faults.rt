@@ -1,16 +1,15 @@
 //! The faults of one pattern, apart from the size of its expansion.
 
-ghost use Rattle.std.specs.Prelude.{◌≡◌, ◌++◌, [], true, false, Some, OnOk, IfOk, Contains, map};
+ghost use Rattle.std.specs.Prelude.{◌≡◌, ◌++◌, [], Some, OnOk, IfOk, Contains, map};
 ghost use Rattle.std.specs.List.{flat_map};
-ghost use Rattle.dactl_syntax.specs.Faults.{TellsFaults};
-ghost use Rattle.dactl_symbols.specs.Least.{least_by};
+ghost use Rattle.dactl_symbols.specs.Least.{least_by, TellsLeast};
 ghost use Rattle.dactl_patterns.specs.Naming.{words};
 ghost use Rattle.dactl_patterns.specs.Occurring.{seen};
 ghost use Rattle.dactl_patterns.specs.TreeFaults as spec;
 
 use crate::names::add;
 use crate::occurrences::Occurrence;
-use dactl_base::refusal::{Kind, Place, Refusal, TextFault};
+use dactl_base::refusal::{Kind, Place, Refusal};
 use dactl_symbols::least::lesser;
 use dactl_syntax::tree::{PatternTree, Sign};
 use indexmap::IndexSet;
@@ -158,23 +157,18 @@ fn first_of(faults: &[Refusal]) -> Option<Refusal>
     first
 }
 
-/// Tells the first fault of a pattern, by the places of its variables. `large` says that the whole
-/// is too wide, and `place` is where that is told.
-pub fn tell(
+/// The first fault of a pattern, by the places of its variables. `large` says that the whole is too
+/// wide, and `place` is where that is told.
+pub fn first_fault(
     alloc: Global,
     occurrences: &[Occurrence],
     tree: &PatternTree,
     named: bool,
     large: bool,
     place: Place,
-) -> Result<(), TextFault>
-    ensures faults { TellsFaults (Contains (spec.faults_with large named place tree.now (map seen occurrences.now))) result }
-    ensures narrow { OnOk result (large ≡ false) }
-    ensures unbound { OnOk result (named ≡ true → map seen occurrences.now ≡ []) }
+) -> Result<Option<Refusal>, AllocError>
+    ensures { IfOk result (TellsLeast (Contains (spec.faults_with large named place tree.now (map seen occurrences.now)))) }
 {
     let faults = all_faults(alloc, occurrences, tree, named, large, place)?;
-    match first_of(faults.as_slice()) {
-        Some(refusal) => Err(TextFault::Refused(refusal)),
-        None => Ok(()),
-    }
+    Ok(first_of(faults.as_slice()))
 }

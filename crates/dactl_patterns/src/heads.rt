@@ -1,47 +1,54 @@
 //! The head of a pattern's expansion.
 
-ghost use Rattle.std.specs.Prelude.{◌≡◌, option_map, option_and_then};
-ghost use Rattle.dactl_model.specs.Binders.{head};
-ghost use Rattle.dactl_syntax.specs.Sight.{sees};
-ghost use Rattle.dactl_syntax.specs.Expansion.{rule_expansion};
-ghost use Rattle.dactl_symbols.specs.Scoping.{told};
-ghost use Rattle.dactl_patterns.specs.Chains as spec;
-ghost use Rattle.dactl_patterns.specs.NamedPatterns.{AreNamed};
+ghost use Rattle.std.specs.Prelude.{◌≡◌, IfOk};
+ghost use Rattle.dactl_symbols.specs.Scoping.{IsScopesOf};
+ghost use Rattle.dactl_patterns.specs.Table as spec;
 
-use crate::chains::{Chain, next_name};
-use crate::leads::lead_at;
+use crate::lookups::seen;
 use crate::named::NamedPatterns;
-use crate::standing::{named_tree, seen};
+use crate::occurrences::has_plus;
+use dactl_model::Memory;
 use dactl_symbols::sight::Seen;
-use dactl_syntax::tree::PatternTree;
+use dactl_syntax::tree::{Name, PatternTree};
+use std::alloc::AllocError;
 
-/// What the module sees under the name at the head of the pattern.
-fn seen_at_head(patterns: &NamedPatterns, owner: usize, tree: &PatternTree) -> Option<Seen>
-    requires { AreNamed patterns.now }
-    ensures { option_map told result ≡ option_and_then (λ n. sees patterns.now.text.now owner n.text) (spec.head_name tree.now) }
+fn at_name(patterns: &NamedPatterns, owner: usize, name: &Name) -> Result<Option<u32>, Memory>
+    requires { IsScopesOf patterns.now.text.now patterns.now.scopes.now }
+    ensures { IfOk result (spec.IsHeadSeen patterns.now owner name.now.text) }
 {
-    let name = next_name(Chain::Head, tree)?;
-    seen(patterns.text, patterns.scopes, owner, name)
+    match seen(patterns.text, patterns.scopes, owner, name) {
+        Some(Seen::Symbol { id, .. }) => Ok(Some(id)),
+        Some(Seen::Pattern { module, item }) => match patterns.known.get(&(module, item)) {
+            Some(known) => Ok(known.head),
+            None => Err(AllocError),
+        },
+        None => Ok(None),
+    }
 }
 
-/// The symbol at the head of a pattern of the module, also where it is that of a named pattern.
-pub fn head_symbol(patterns: &NamedPatterns, owner: usize, tree: &PatternTree) -> Option<u32>
-    requires { AreNamed patterns.now }
-    ensures { result ≡ head (rule_expansion patterns.now.text.now owner tree.now) }
+/// The symbol at the head of a pattern of the module, also where it is that of a named pattern. One
+/// that isn't known is want of memory.
+pub fn head_symbol(
+    patterns: &NamedPatterns,
+    owner: usize,
+    tree: &PatternTree,
+) -> Result<Option<u32>, Memory>
+    requires { IsScopesOf patterns.now.text.now patterns.now.scopes.now }
+    ensures { IfOk result (spec.IsHead patterns.now owner tree.now) }
 {
-    let mut depth = patterns.count;
-    let mut found = seen_at_head(patterns, owner, tree);
-    'patterns: while let Some(at_head) = found {
-        match at_head {
-            Seen::Symbol { id, .. } => return Some(id),
-            Seen::Pattern { module, item } => {
-                let lead = lead_at(patterns.heads.as_slice(), module, item);
-                let left = depth.checked_sub(lead.steps)?;
-                depth = left.checked_sub(1)?;
-                let tree = named_tree(patterns.text, lead.owner, lead.item)?;
-                found = seen_at_head(patterns, lead.owner, tree);
+    match tree {
+        PatternTree::Any => Ok(None),
+        PatternTree::Int => Ok(None),
+        PatternTree::Integer { .. } => Ok(None),
+        PatternTree::Variable { .. } => Ok(None),
+        PatternTree::Sym { name, .. } => at_name(patterns, owner, name),
+        PatternTree::Binder { inner, .. } => head_symbol(patterns, owner, inner.get()),
+        PatternTree::Chain { first, rest } => {
+            if has_plus(rest.as_slice()) {
+                Ok(None)
+            } else {
+                head_symbol(patterns, owner, first.get())
             }
         }
     }
-    None
 }

@@ -6,7 +6,7 @@ ghost use Rattle.dactl_patterns.specs.Cycles.{all_declared};
 ghost use Rattle.dactl_patterns.specs.Cycling as cycling;
 ghost use Rattle.dactl_patterns.specs.Levels as spec;
 
-use crate::cycling::Declared;
+use crate::declarations::Declared;
 use crate::uses::named_from;
 use dactl_model::Memory;
 use dactl_symbols::sight::Scopes;
@@ -14,10 +14,8 @@ use dactl_syntax::tree::Text;
 use indexmap::{IndexMap, IndexSet};
 use std::alloc::Global;
 
-/// How often levels are raised at most. More is needed only where many cycles share a way.
-const MOST_ROUNDS: u32 = 64;
-
-fn level(levels: &IndexMap<(usize, usize), usize>, pattern: (usize, usize)) -> usize
+/// The level of the named pattern, which is 0 where it has none.
+pub fn level(levels: &IndexMap<(usize, usize), usize>, pattern: (usize, usize)) -> usize
     ensures { result ≡ spec.level_in levels.now pattern }
 {
     match levels.get(&pattern) {
@@ -173,66 +171,81 @@ fn ended(
     Ok(ended)
 }
 
-/// Each named pattern's place in the order as its level.
-fn numbered(
+/// The named patterns that name each.
+type Namers = IndexMap<(usize, usize), Vec<(usize, usize)>>;
+
+fn note_namer(
     alloc: Global,
-    ended: &[(usize, usize)],
-) -> Result<IndexMap<(usize, usize), usize>, Memory> {
-    let mut levels = IndexMap::new(alloc);
-    for (number, pattern) in ended.iter().enumerate() {
-        levels.insert(*pattern, number)?;
+    namers: &mut Namers,
+    named: (usize, usize),
+    namer: (usize, usize),
+) -> Result<(), Memory> {
+    if !namers.contains_key(&named) {
+        namers.insert(named, Vec::new(alloc))?;
     }
-    Ok(levels)
+    if let Some(list) = namers.get_mut(&named) {
+        list.push(namer)?;
+    }
+    Ok(())
 }
 
-fn highest(levels: &IndexMap<(usize, usize), usize>, names: &[(usize, usize)]) -> usize {
-    let mut most = 0;
-    for name in names {
-        most = most.max(level(levels, *name));
-    }
-    most
-}
-
-/// Raises the level of the named pattern to those that it names, and answers whether that was needed.
-fn raise(
+fn namers(
     alloc: Global,
     text: &Text,
     scopes: &Scopes,
-    levels: &mut IndexMap<(usize, usize), usize>,
-    pattern: (usize, usize),
-) -> Result<bool, Memory>
+    patterns: &[(usize, usize)],
+) -> Result<Namers, Memory>
     requires { IsScopesOf text.now scopes.now }
 {
-    let names = named_from(alloc, text, scopes, pattern.0, pattern.1)?;
-    let most = highest(levels, names.as_slice());
-    if most <= level(levels, pattern) {
-        return Ok(false);
-    }
-    levels.insert(pattern, most)?;
-    Ok(true)
-}
-
-fn raise_all(
-    alloc: Global,
-    text: &Text,
-    scopes: &Scopes,
-    levels: &mut IndexMap<(usize, usize), usize>,
-    ended: &[(usize, usize)],
-) -> Result<bool, Memory>
-    requires { IsScopesOf text.now scopes.now }
-{
-    let mut raised = false;
-    for pattern in ended {
-        if raise(alloc, text, scopes, levels, *pattern)? {
-            raised = true;
+    let mut namers = IndexMap::new(alloc);
+    for pattern in patterns {
+        for name in named_from(alloc, text, scopes, pattern.0, pattern.1)?.as_slice() {
+            note_namer(alloc, &mut namers, *name, *pattern)?;
         }
     }
-    Ok(raised)
+    Ok(namers)
 }
 
-/// Raises levels until none names a higher one, or so often. In the order in which named patterns
-/// end a second round is needed for cycles alone.
-fn raised(
+fn open_namers(
+    open: &mut Vec<(usize, usize)>,
+    namers: &Namers,
+    pattern: (usize, usize),
+) -> Result<(), Memory> {
+    if let Some(list) = namers.get(&pattern) {
+        for namer in list {
+            open.push(*namer)?;
+        }
+    }
+    Ok(())
+}
+
+/// Gives this level to the named pattern and to those that reach it, but for those that have one.
+fn level_from(
+    alloc: Global,
+    namers: &Namers,
+    levels: &mut IndexMap<(usize, usize), usize>,
+    first: (usize, usize),
+    level: usize,
+) -> Result<(), Memory> {
+    let mut open = Vec::new(alloc);
+    open.push(first)?;
+    let mut left = usize::MAX;
+    'steps: while left > 0 {
+        left -= 1;
+        let Some(pattern) = open.pop() else {
+            return Ok(());
+        };
+        if !levels.contains_key(&pattern) {
+            levels.insert(pattern, level)?;
+            open_namers(&mut open, namers, pattern)?;
+        }
+    }
+    Ok(())
+}
+
+/// Levels of the named patterns, of which two have the same if each reaches the other: the last one
+/// to end is reached by those alone that it reaches, and so on among the others.
+fn numbered(
     alloc: Global,
     text: &Text,
     scopes: &Scopes,
@@ -241,17 +254,16 @@ fn raised(
     requires { IsScopesOf text.now scopes.now }
 {
     let ended = ended(alloc, text, scopes, patterns)?;
-    let mut levels = numbered(alloc, ended.as_slice())?;
-    for _ in 0..MOST_ROUNDS {
-        if !raise_all(alloc, text, scopes, &mut levels, ended.as_slice())? {
-            return Ok(levels);
-        }
+    let namers = namers(alloc, text, scopes, ended.as_slice())?;
+    let mut levels = IndexMap::new(alloc);
+    for (number, pattern) in ended.as_slice().iter().enumerate().rev() {
+        level_from(alloc, &namers, &mut levels, *pattern, number)?;
     }
     Ok(levels)
 }
 
-/// Levels of the named patterns. Those of different cycles differ, unless the rounds were too few:
-/// then all are 0.
+/// Levels of the named patterns. They are looked through once more: were one to name another of a
+/// higher level, then all would be 0.
 pub fn levels(
     alloc: Global,
     text: &Text,
@@ -262,7 +274,7 @@ pub fn levels(
     requires patterns { patterns.now ≡ all_declared 0 text.now.modules }
     ensures { IfOk result (λ levels. spec.IsDescending text.now (spec.level_in levels)) }
 {
-    let levels = raised(alloc, text, scopes, patterns)?;
+    let levels = numbered(alloc, text, scopes, patterns)?;
     if descend(alloc, text, scopes, &levels, patterns)? {
         Ok(levels)
     } else {

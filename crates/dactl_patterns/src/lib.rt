@@ -2,22 +2,20 @@
 //! patterns are replaced by what they stand for; and named patterns that reach themselves.
 #![tactic(auto)]
 
-mod chains;
-mod counting;
+mod copying;
 mod cycling;
+mod declarations;
 mod expanding;
 mod faults;
 mod heads;
-mod leads;
 mod levels;
+mod lookups;
 mod named;
-pub mod names;
+mod names;
 pub mod occurrences;
 mod patterns;
-mod standing;
 mod uses;
 
-pub use cycling::cycles;
 pub use heads::head_symbol;
-pub use named::{NamedPatterns, named_patterns};
-pub use patterns::{Expanded, expansion_of, pattern};
+pub use named::{NamedPatterns, cycles, named_patterns};
+pub use patterns::{Examined, Expanded, examine, pattern};

@@ -1,52 +1,140 @@
-//! The named patterns of a text.
+//! The named patterns of a text, each looked through once, after those that it names.
 
-ghost use Rattle.std.specs.Prelude.{◌≡◌, IfOk, IfErr};
-ghost use Rattle.dactl_base.specs.declared.refusal.TextFault.TheVariants as fault;
+ghost use Rattle.std.specs.Prelude.{◌≡◌, ℕ, suc, length, vec_len, IfOk, OnOk};
+ghost use Rattle.dactl_syntax.specs.Expansion.{named_count, named_expansion};
+ghost use Rattle.dactl_syntax.specs.Faults.{TellsFaults};
+ghost use Rattle.dactl_syntax.specs.Meaning.{CycleFault};
 ghost use Rattle.dactl_symbols.specs.Scoping.{IsScopesOf};
-ghost use Rattle.dactl_patterns.specs.NamedPatterns.{AreNamed};
+ghost use Rattle.dactl_patterns.specs.Table as spec;
 
-use crate::chains::Chain;
-use crate::counting::named_count;
-use crate::leads::{Lead, leads};
+use crate::cycling::first_cycle;
+use crate::declarations::{Declared, declarations};
+use crate::expanding::{Expander, Small};
+use crate::heads::head_symbol;
+use crate::levels::{level, levels};
+use crate::lookups::named_tree;
 use dactl_base::refusal::TextFault;
+use dactl_model::Memory;
 use dactl_symbols::sight::Scopes;
-use dactl_syntax::tree::Text;
-use sqlite_items::Items;
+use dactl_syntax::tree::{PatternTree, Text};
+use indexmap::IndexMap;
 use std::alloc::Global;
 
-/// What is known of the named patterns of a text before a pattern is expanded: what the modules of
-/// the text see, how many named patterns it declares, and where the chains of those lead that are no
-/// more than the name of another, or have it at their head.
+/// How many nodes an expanded pattern may have; binders don't count.
+pub const MOST_NODES: usize = 64;
+
+/// What is known of a named pattern: the symbol at the head of its expansion, and the expansion, if
+/// it isn't too large.
+#[derive(Drop)]
+pub struct Known {
+    pub(crate) head: Option<u32>,
+    pub(crate) small: Option<Small>,
+}
+
+/// The named patterns of a text: what its modules see, and what is known of each named pattern, by
+/// the numbers of its module and of its item there.
 #[derive(Drop)]
 pub struct NamedPatterns<'a> {
     pub text: &'a Text,
     pub scopes: &'a Scopes,
-    pub(crate) count: usize,
-    pub(crate) aliases: Items<Items<Option<Lead>>>,
-    pub(crate) heads: Items<Items<Option<Lead>>>,
+    pub(crate) known: IndexMap<(usize, usize), Known>,
 }
 
-/// Looks through the named patterns of a text. `Memory` stands also for more of them than a `usize`
-/// counts.
+/// Looks through the named pattern whose tree this is.
+fn look_through(
+    alloc: Global,
+    patterns: &NamedPatterns,
+    owner: usize,
+    tree: &PatternTree,
+) -> Result<Known, Memory>
+    requires { IsScopesOf patterns.now.text.now patterns.now.scopes.now }
+    ensures { IfOk result (spec.IsKnownOf patterns.now owner tree.now) }
+{
+    let head = head_symbol(patterns, owner, tree)?;
+    let expander = Expander {
+        alloc,
+        patterns,
+        owner,
+        variables: None,
+    };
+    let small = expander.expand(tree, MOST_NODES)?;
+    Ok(Known { head, small })
+}
+
+fn enter(alloc: Global, patterns: &mut NamedPatterns, pattern: Declared) -> Result<(), Memory>
+    requires { IsScopesOf patterns.old.text.now patterns.old.scopes.now }
+    ensures same { spec.IsSameText patterns.old patterns.new }
+    ensures right { OnOk result ((d : ℕ) → spec.IsRight (named_expansion patterns.old.text.now d) patterns.old → spec.IsRight (named_expansion patterns.old.text.now (suc d)) patterns.old → spec.IsRight (named_expansion patterns.old.text.now (suc d)) patterns.new) }
+{
+    if let Some(tree) = named_tree(patterns.text, pattern.owner, pattern.item) {
+        let known = look_through(alloc, patterns, pattern.owner, tree)?;
+        patterns.known.insert((pattern.owner, pattern.item), known)?;
+    }
+    Ok(())
+}
+
+/// The named patterns, entered in this order.
+fn entered<'a>(
+    alloc: Global,
+    text: &'a Text,
+    scopes: &'a Scopes,
+    order: &[Declared],
+) -> Result<NamedPatterns<'a>, Memory>
+    requires { IsScopesOf text.now scopes.now }
+    ensures right { IfOk result (spec.IsRightFrom (length order.now)) }
+    ensures text { IfOk result (λ n. n.text ≡ text.entry) }
+    ensures scopes { IfOk result (λ n. n.scopes ≡ scopes.entry) }
+{
+    let mut patterns = NamedPatterns {
+        text,
+        scopes,
+        known: IndexMap::new(alloc),
+    };
+    for pattern in order {
+        enter(alloc, &mut patterns, *pattern)?;
+    }
+    Ok(patterns)
+}
+
+/// The named patterns of a text, each after those that it names. The text is refused for the one
+/// whose name stands first among those that reach themselves.
+fn ordered(alloc: Global, text: &Text, scopes: &Scopes) -> Result<Vec<Declared>, TextFault>
+    requires { IsScopesOf text.now scopes.now }
+    ensures faults { TellsFaults (CycleFault text.now) result }
+    ensures count { IfOk result (λ order. vec_len order ≡ named_count text.now) }
+{
+    let mut order = declarations(alloc, text)?;
+    let levels = levels(alloc, text, scopes, order.as_slice())?;
+    if let Some(refusal) = first_cycle(alloc, text, scopes, &levels, order.as_slice())? {
+        return Err(TextFault::Refused(refusal));
+    }
+    order.sort_by_key(|pattern| level(&levels, (pattern.owner, pattern.item)))?;
+    Ok(order)
+}
+
+/// Looks through the named patterns of a text, and refuses it for the one whose name stands first
+/// among those that reach themselves.
 pub fn named_patterns<'a>(
     alloc: Global,
     text: &'a Text,
     scopes: &'a Scopes,
 ) -> Result<NamedPatterns<'a>, TextFault>
     requires { IsScopesOf text.now scopes.now }
-    ensures named { IfOk result AreNamed }
+    ensures faults { TellsFaults (CycleFault text.now) result }
+    ensures named { IfOk result spec.AreNamed }
     ensures text { IfOk result (λ n. n.text ≡ text.entry) }
     ensures scopes { IfOk result (λ n. n.scopes ≡ scopes.entry) }
-    ensures err { IfErr result (λ f. f ≡ fault.Memory) }
 {
-    let count = named_count(text)?;
-    let aliases = leads(alloc, text, scopes, Chain::Alias, count)?;
-    let heads = leads(alloc, text, scopes, Chain::Head, count)?;
-    Ok(NamedPatterns {
-        text,
-        scopes,
-        count,
-        aliases,
-        heads,
-    })
+    let order = ordered(alloc, text, scopes)?;
+    Ok(entered(alloc, text, scopes, order.as_slice())?)
+}
+
+/// Looks for named patterns that reach themselves through named patterns, and refuses the text for
+/// the one of them whose name stands first.
+pub fn cycles(alloc: Global, text: &Text, scopes: &Scopes) -> Result<(), TextFault>
+    requires { IsScopesOf text.now scopes.now }
+    ensures { TellsFaults (CycleFault text.now) result }
+{
+    let _ = ordered(alloc, text, scopes)?;
+    Ok(())
 }

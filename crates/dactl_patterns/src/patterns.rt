@@ -1,32 +1,38 @@
-//! A pattern of a text: its first fault, or its expansion.
+//! A pattern of a text: its variables, its first fault and its expansion.
 
-ghost use Rattle.std.specs.Prelude.{◌≡◌, IfOk, Contains, map};
+ghost use Rattle.std.specs.Prelude.{◌≡◌, ◌&&◌, not, nat_lt, length, IfOk, Contains, map};
+ghost use Rattle.std.specs.Option.{option_copied};
 ghost use Rattle.dactl_syntax.specs.Faults.{TellsFaults};
 ghost use Rattle.dactl_syntax.specs.Expansion as spec;
-ghost use Rattle.dactl_syntax.specs.RuleFaults.{pattern_faults, is_too_wide};
+ghost use Rattle.dactl_syntax.specs.RuleFaults.{pattern_faults};
 ghost use Rattle.dactl_symbols.specs.Scoping.{IsScopesOf};
 ghost use Rattle.dactl_patterns.specs.Occurring.{seen};
-ghost use Rattle.dactl_patterns.specs.Expanded.{IsExpanded};
-ghost use Rattle.dactl_patterns.specs.NamedPatterns.{AreNamed};
+ghost use Rattle.dactl_patterns.specs.Expanded.{IsExamined, IsExpanded, IsExpansion, variables_counted};
+ghost use Rattle.dactl_patterns.specs.Table.{AreNamed};
 
-use crate::counting::room_left;
-use crate::expanding::expand;
-use crate::faults::tell;
-use crate::named::{NamedPatterns, named_patterns};
+use crate::expanding::Expander;
+use crate::faults::first_fault;
+use crate::named::{MOST_NODES, NamedPatterns, named_patterns};
 use crate::names::variables;
 use crate::occurrences::{Occurrence, occurrences};
-use dactl_base::refusal::{Place, TextFault};
+use dactl_base::refusal::{Place, Refusal, TextFault};
 use dactl_model::program::Pat;
 use dactl_symbols::sight::Scopes;
 use dactl_syntax::tree::{PatternTree, Text};
 use sqlite_items::Items;
 use std::alloc::{AllocError, Global};
 
-/// How many nodes an expanded pattern may have; binders don't count.
-const MOST_NODES: usize = 64;
-
 /// How many variables a rule's pattern may have.
 const MOST_VARIABLES: usize = 64;
+
+/// What is known of a pattern: the names of its variables, by their numbers; its first fault; and
+/// its expansion, unless the whole is too wide.
+#[derive(Drop)]
+pub struct Examined {
+    pub variables: Items<Items<u8>>,
+    pub fault: Option<Refusal>,
+    pub pat: Option<Pat>,
+}
 
 /// A pattern in which named patterns are replaced, and the names of its variables by their numbers.
 #[derive(Drop)]
@@ -43,55 +49,77 @@ fn places<'a>(alloc: Global, tree: &'a PatternTree) -> Result<Vec<Occurrence<'a>
     Ok(found)
 }
 
-fn is_large(
+/// Whether a rule's pattern has too many variables.
+fn has_many(named: bool, variables: &[Items<u8>]) -> bool
+    ensures { result ≡ (not named && nat_lt 64 (length variables.now)) }
+{
+    !named && variables.len() > MOST_VARIABLES
+}
+
+/// The variables, if they count.
+fn counted<'a>(named: bool, variables: &'a [Items<u8>]) -> Option<&'a [Items<u8>]>
+    ensures { option_copied result ≡ variables_counted named variables.now }
+{
+    if named { None } else { Some(variables) }
+}
+
+/// The expansion of a pattern with these variables, unless the whole is too wide.
+fn expansion(
+    alloc: Global,
     patterns: &NamedPatterns,
     owner: usize,
     named: bool,
     variables: &[Items<u8>],
     tree: &PatternTree,
-) -> bool
+) -> Result<Option<Pat>, AllocError>
     requires patterns { AreNamed patterns.now }
     requires variables { variables.now ≡ spec.variables_of tree.now }
-    ensures { result ≡ is_too_wide named (spec.pattern_expansion patterns.now.text.now owner tree.now) tree.now }
+    ensures { IfOk result (IsExpansion patterns.now.text.now owner named tree.now) }
 {
-    room_left(patterns, owner, patterns.count, tree, MOST_NODES).is_none()
-        || (!named && variables.len() > MOST_VARIABLES)
+    if has_many(named, variables) {
+        return Ok(None);
+    }
+    let expander = Expander {
+        alloc,
+        patterns,
+        owner,
+        variables: counted(named, variables),
+    };
+    match expander.expand(tree, MOST_NODES)? {
+        Some(small) => Ok(Some(small.pat)),
+        None => Ok(None),
+    }
 }
 
-/// The expansion of a pattern of the module of that number, or its first fault: by its place, and
+/// Looks through a pattern of the module of that number. Its first fault is that by its place, and
 /// at one place by the order of the kinds. The kinds are `BinderInChoice`, `NamedTwice` and
 /// `TooWide`. `named` says that the pattern is that of a named pattern, in which no variable may
 /// stand. A `TooWide` of the whole pattern is told at `place`. The faults of the named patterns that
 /// it uses are not looked for.
-pub fn expansion_of(
+pub fn examine(
     alloc: Global,
     patterns: &NamedPatterns,
     owner: usize,
     named: bool,
     place: Place,
     tree: &PatternTree,
-) -> Result<Expanded, TextFault>
+) -> Result<Examined, AllocError>
     requires { AreNamed patterns.now }
-    ensures faults { TellsFaults (Contains (pattern_faults patterns.now.text.now owner named place.byte tree.now)) result }
-    ensures expanded { IfOk result (IsExpanded patterns.now.text.now owner named tree.now) }
+    ensures { IfOk result (IsExamined patterns.now.text.now owner named place.byte tree.now) }
 {
     let found = places(alloc, tree)?;
     let variables = variables(alloc, found.as_slice())?;
-    let large = is_large(patterns, owner, named, variables.as_slice(), tree);
-    tell(alloc, found.as_slice(), tree, named, large, place)?;
-    let pat = expand(
-        alloc,
-        patterns,
-        variables.as_slice(),
-        !named,
-        owner,
-        patterns.count,
-        tree,
-    )?;
-    Ok(Expanded { pat, variables })
+    let pat = expansion(alloc, patterns, owner, named, variables.as_slice(), tree)?;
+    let fault = first_fault(alloc, found.as_slice(), tree, named, pat.is_none(), place)?;
+    Ok(Examined {
+        variables,
+        fault,
+        pat,
+    })
 }
 
-/// `expansion_of` for one pattern alone: it looks through the named patterns of the text first.
+/// The expansion of one pattern of a text, or its first fault, as `examine` finds them. A text whose
+/// named patterns reach themselves is want of memory here: `cycles` refuses it.
 pub fn pattern(
     alloc: Global,
     text: &Text,
@@ -105,6 +133,19 @@ pub fn pattern(
     ensures faults { TellsFaults (Contains (pattern_faults text.now owner named place.byte tree.now)) result }
     ensures expanded { IfOk result (IsExpanded text.now owner named tree.now) }
 {
-    let patterns = named_patterns(alloc, text, scopes)?;
-    expansion_of(alloc, &patterns, owner, named, place, tree)
+    let Ok(patterns) = named_patterns(alloc, text, scopes) else {
+        return Err(TextFault::Memory);
+    };
+    let Examined {
+        variables,
+        fault,
+        pat,
+    } = examine(alloc, &patterns, owner, named, place, tree)?;
+    if let Some(refusal) = fault {
+        return Err(TextFault::Refused(refusal));
+    }
+    match pat {
+        Some(pat) => Ok(Expanded { pat, variables }),
+        None => unreachable!(),
+    }
 }

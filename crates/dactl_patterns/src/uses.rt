@@ -7,7 +7,7 @@ ghost use Rattle.dactl_symbols.specs.Scoping.{IsScopesOf};
 ghost use Rattle.dactl_patterns.specs.Naming.{told};
 ghost use Rattle.dactl_patterns.specs.Cycling as spec;
 
-use crate::standing::{named_tree, seen};
+use crate::lookups::{named_tree, seen};
 use dactl_symbols::sight::{Scopes, Seen};
 use dactl_syntax::tree::{Name, PatternTree, Sign, Text};
 use std::alloc::{AllocError, Global};

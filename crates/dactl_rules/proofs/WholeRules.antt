@@ -1,5 +1,5 @@
 -- The faults of a rule as the code finds them are those of the definition.
-use Rattle.std.proofs.Common.{◌≡◌, ℕ, ◌<◌, Bool, true, false, not, ◌&&◌, ◌⊎◌, inl, inr, cond, List, [], ◌∷◌, ◌++◌, map, length, Contains, All, Result, Ok, Err, Option, Some, None, refl, sym, ap, ◌∙◌, subst, arith, if◌then◌else◌, ◌≤◌, ◌||◌, nat_lt, unwrap_or}
+use Rattle.std.proofs.Common.{◌≡◌, ℕ, ◌<◌, Bool, true, false, not, ◌&&◌, ◌⊎◌, inl, inr, cond, List, [], ◌∷◌, ◌++◌, map, length, Contains, All, Result, Ok, Err, Option, Some, None, refl, sym, ap, ◌∙◌, subst, arith, lit<, if◌then◌else◌, ◌≤◌, ◌||◌, nat_lt, unwrap_or}
 use Rattle.std.specs.List.{filter, filter_map, flat_map, cons_option}
 use Rattle.std.specs.Borrow.{Bor}
 use Rattle.std.proofs.lemmas.List.Elements.{Contains-append_left, Contains-append_right, Contains-append_cases}
@@ -29,6 +29,7 @@ use Rattle.dactl_symbols.specs.Scoping.{seen_in, class_in, IsScopesOf}
 use Rattle.dactl_symbols.specs.Sights.{Sights}
 use Rattle.dactl_symbols.proofs.Sooner.{tells-same, tells-sooner}
 use Rattle.dactl_symbols.proofs.Turns.{precedes-trans, Precedes-test, test-Precedes}
+use Rattle.dactl_patterns.proofs.Faultless.{wide_there}
 use Rattle.dactl_rules.specs.declared.reading.RuleParts.{RuleParts}
 use Rattle.dactl_rules.specs.Drawing.{made_in, mentioned_in}
 use Rattle.dactl_rules.specs.Lefts.{words, left_unbound, left_fixed, is_fixed}
@@ -36,10 +37,9 @@ use Rattle.dactl_rules.specs.Reading.{IsRead}
 use Rattle.dactl_rules.specs.Rules.{early_faults, fixed_faults, meant_of, IsAnswerFor}
 use Rattle.dactl_rules.specs.Meant.{wake_of}
 use Rattle.dactl_rules.specs.Told.{fault_at, drawn_faults}
-use Rattle.dactl_rules.proofs.Late.{pattern_phase}
 use Rattle.dactl_rules.proofs.Least.{one_is}
 use Rattle.dactl_rules.proofs.Meanings.{wake_one}
-use Rattle.dactl_rules.proofs.ValidTests.{not_above}
+use Rattle.dactl_rules.proofs.ValidTests.{not_above as not_wider}
 use Rattle.dactl_rules.proofs.LeftSides.{left_unbound_told, left_fixed_told}
 use Rattle.dactl_rules.proofs.ValidLists.{In, all_in, flat_in, map_in, get_in}
 
@@ -163,51 +163,52 @@ pub with_fixed : (s : Sights) (m : ℕ) (r : RuleParts) (pattern : Pat) (faults 
     → faults ++ flat_map (left_fixed (λ f. is_class classes.Overwritable (class_in s m f)) r.variables r.roots pattern) (words lefts) ≡ faults ++ fixed_faults s m r pattern
 with_fixed s m r pattern faults lefts is = ap (λ (l : List (Bor Name)). faults ++ flat_map (left_fixed (λ f. is_class classes.Overwritable (class_in s m f)) r.variables r.roots pattern) (words l)) is
 
--- ---- a fault of the pattern
+-- ---- a pattern that is too wide
 
--- what is told of left sides that stand behind a place stands behind it
-told_behind : (b : ℕ) (holds : Bool) (n : Name) (x : Refusal) → b < place_of n → In (fault_at holds kinds.NotOverwritable n.place) x → (b < x.place.byte) × (phase x.kind ≡ 5)
-told_behind b true n x lt (inl e) = subst (λ (z : Refusal). (b < z.place.byte) × (phase z.kind ≡ 5)) e (lt, refl)
-told_behind b true n x lt (inr none) = absurd none
-told_behind b false n x lt none = absurd none
+abbrev wide_at : Place → Refusal
+wide_at p = record { kind = kinds.TooWide; place = p }
 
-fixed_behind : (b : ℕ) (writable : ℕ → Bool) (variables roots : List (List ℕ)) (pattern : Pat) (lefts : List (Bor Name)) → All (λ n. b < place_of n.now) lefts
-    → (x : Refusal) → Contains (flat_map (left_fixed writable variables roots pattern) (words lefts)) x → (b < x.place.byte) × (phase x.kind ≡ 5)
-fixed_behind b writable variables roots pattern lefts all x h =
+not_above : (a b : ℕ) → a ≤ b → (a < b) ⊎ (a ≡ b)
+not_above a b le = grind arith
+
+-- what is told of left sides that don't stand before a place comes behind what is too wide there
+told_behind : (p : Place) (holds : Bool) (n : Name) (x : Refusal) → p.byte ≤ place_of n → In (fault_at holds kinds.NotOverwritable n.place) x → Precedes (wide_at p) x
+told_behind p true n x le (inl e) = subst (Precedes (wide_at p)) e (inr (refl, elim (not_above p.byte (place_of n) le) [ inl less ↦ inl less | inr same ↦ inr (same, lit< tt) ]))
+told_behind p true n x le (inr none) = absurd none
+told_behind p false n x le none = absurd none
+
+fixed_behind : (p : Place) (writable : ℕ → Bool) (variables roots : List (List ℕ)) (pattern : Pat) (lefts : List (Bor Name)) → All (λ n. p.byte ≤ place_of n.now) lefts
+    → (x : Refusal) → Contains (flat_map (left_fixed writable variables roots pattern) (words lefts)) x → Precedes (wide_at p) x
+fixed_behind p writable variables roots pattern lefts all x h =
     let at = flat_in (left_fixed writable variables roots pattern) (words lefts) x (contains_in (flat_map (left_fixed writable variables roots pattern) (words lefts)) x h) in
     let behind = map_in (λ (n : Bor Name). n.now) lefts at.0 at.1 in
-    told_behind b (is_fixed writable variables roots pattern at.0.text) at.0 x
-    (subst (λ (n : Name). b < place_of n) behind.2 (all_in (λ (n : Bor Name). b < place_of n.now) lefts all behind.0 behind.1)) at.2
+    told_behind p (is_fixed writable variables roots pattern at.0.text) at.0 x
+    (subst (λ (n : Name). p.byte ≤ place_of n) behind.2 (all_in (λ (n : Bor Name). p.byte ≤ place_of n.now) lefts all behind.0 behind.1)) at.2
 
-not_before : (a b x : Refusal) → phase a.kind ≡ 5 → (a.place.byte < x.place.byte) × (phase x.kind ≡ 5) → ¬ Precedes a b → ¬ Precedes x b
-not_before a b x p h not before =
-    let first : Precedes a x = inr (p ∙ sym h.1, inl h.0) in
-    not (Precedes-test a b (precedes-trans a x b (test-Precedes a x first) (test-Precedes x b before)))
+-- faults behind one of the others change nothing
+still_least : (E N P : List Refusal) (wide x : Refusal) → IsLeastFault (λ z. Contains E z ⊎ Contains P z) x → Contains P wide → ((n : Refusal) → Contains N n → Precedes wide n)
+    → IsLeastFault (λ z. Contains (E ++ N) z ⊎ Contains P z) x
+still_least E N P wide x told has behind = record {
+  holds = elim told.holds [ inl e ↦ inl (Contains-append_left E N x e) | inr p ↦ inr p ];
+  least = λ other h before. elim h [
+    | inr p ↦ told.least other (inr p) before
+    | inl h ↦ elim (Contains-append_cases E N other h) [
+      | inl e ↦ told.least other (inl e) before
+      | inr n ↦ told.least wide (inr has) (Precedes-test wide x (precedes-trans wide other x (test-Precedes wide other (behind other n)) (test-Precedes other x before)))
+    ]
+  ];
+}
 
--- the lesser of the first fault found and of the pattern's is the least of all
-pub refused_least : (E N P : List Refusal) (refusal x : Refusal) (least : Option Refusal) → TellsLeast (Contains E) least → IsLeastFault (Contains P) refusal → phase refusal.kind ≡ 5
-    → ((n : Refusal) → Contains N n → (refusal.place.byte < n.place.byte) × (phase n.kind ≡ 5)) → Some x ≡ sooner least (Some refusal) → IsLeastFault (λ z. Contains (E ++ N) z ⊎ Contains P z) x
-refused_least E N P refusal x least of_found of_pattern late behind is =
-    let told : IsLeastFault (λ z. Contains E z ⊎ Contains P z) x = subst (TellsLeast (λ z. Contains E z ⊎ Contains P z)) (sym is) (tells-sooner (Contains E) (Contains P) least (Some refusal) of_found of_pattern) in
-    record {
-      holds = elim told.holds [ inl e ↦ inl (Contains-append_left E N x e) | inr p ↦ inr p ];
-      least = λ other h before. elim h [
-        | inr p ↦ told.least other (inr p) before
-        | inl h ↦ elim (Contains-append_cases E N other h) [
-          | inl e ↦ told.least other (inl e) before
-          | inr n ↦ not_before refusal x other late (behind other n) (told.least refusal (inr of_pattern.holds)) before
-        ]
-      ];
-    }
-
--- what is answered where the pattern has a fault is the rule's first fault
-pub answer_due : (text : Text) (s : Sights) (m : ℕ) (tree : RuleTree) (r : RuleParts) → IsScopesOf text s → IsRead text m tree r → (faults : List Refusal) (refusal : Refusal) (f : TextFault) → faults ≡ early_faults s m tree r
-    → IsLeastFault (Contains (pattern_faults text m false tree.place.byte tree.pattern)) refusal → IsAnswerFor faults r.lefts.items refusal f → IsDueFault (Contains (rule_faults text m tree)) f
-answer_due text s m tree r scopes read faults refusal fault.Memory e first answer = tt
-answer_due text s m tree r scopes read faults refusal (fault.Refused x) e first answer =
-    let fixed_here = fixed_faults s m r (rule_expansion text m tree.pattern) in
-    let both = refused_least faults fixed_here (pattern_faults text m false tree.place.byte tree.pattern) refusal x answer.1.0 answer.1.1.0 first (pattern_phase text m false tree.place.byte tree.pattern refusal first.holds)
-    (fixed_behind refusal.place.byte (λ f. is_class classes.Overwritable (class_in s m f)) r.variables r.roots (rule_expansion text m tree.pattern) r.lefts.items answer.0) answer.1.1.1 in
+-- what is answered where the pattern is too wide is the rule's first fault
+pub answer_due : (text : Text) (s : Sights) (m : ℕ) (tree : RuleTree) (r : RuleParts) → IsScopesOf text s → IsRead text m tree r → (faults : List Refusal) (least : Option Refusal) (f : TextFault) → faults ≡ early_faults s m tree r
+    → is_too_wide false (pattern_expansion text m tree.pattern) tree.pattern ≡ true
+    → TellsLeast (λ x. Contains faults x ⊎ Contains (pattern_faults text m false tree.place.byte tree.pattern) x) least → IsAnswerFor least r.lefts.items tree.place f → IsDueFault (Contains (rule_faults text m tree)) f
+answer_due text s m tree r scopes read faults least fault.Memory e wide tells answer = tt
+answer_due text s m tree r scopes read faults least (fault.Refused x) e wide tells answer =
+    let pattern = pattern_faults text m false tree.place.byte tree.pattern in
+    let first : IsLeastFault (λ z. Contains faults z ⊎ Contains pattern z) x = subst (TellsLeast (λ z. Contains faults z ⊎ Contains pattern z)) answer.0 tells in
+    let both = still_least faults (fixed_faults s m r (rule_expansion text m tree.pattern)) pattern (wide_at tree.place) x first (wide_there text m false tree.place tree.pattern wide)
+    (fixed_behind tree.place (λ f. is_class classes.Overwritable (class_in s m f)) r.variables r.roots (rule_expansion text m tree.pattern) r.lefts.items answer.1) in
     record {
       holds = found_into text s m tree r scopes read faults x e both.holds;
       least = λ other h before. both.least other (out_found text s m tree r scopes read faults other e h) before;
@@ -219,14 +220,14 @@ told_same P Q (Ok a) to from tells = λ x h. tells x (from x h)
 told_same P Q (Err (fault.Refused r)) to from tells = record { holds = to r tells.holds; least = λ other h before. tells.least other (from other h) before }
 told_same P Q (Err fault.Memory) to from tells = tt
 
--- what is told where the pattern has no fault
+-- what is told of a rule whose pattern isn't too wide
 pub whole_told : {A : Type 0} (text : Text) (s : Sights) (m : ℕ) (tree : RuleTree) (r : RuleParts) → IsScopesOf text s → IsRead text m tree r → (faults : List Refusal) (pattern : Pat) (result : Result A TextFault) → faults ≡ early_faults s m tree r
-    → NoFault (Contains (pattern_faults text m false tree.place.byte tree.pattern)) → pattern ≡ rule_expansion text m tree.pattern → TellsFaults (Contains (faults ++ fixed_faults s m r pattern)) result → TellsFaults (Contains (rule_faults text m tree)) result
-whole_told text s m tree r scopes read faults pattern result e none is tells =
-    told_same (Contains (faults ++ fixed_faults s m r (rule_expansion text m tree.pattern))) (Contains (rule_faults text m tree)) result
-    (λ x h. found_into text s m tree r scopes read faults x e (inl h))
-    (λ x h. elim (out_found text s m tree r scopes read faults x e h) [ inl here ↦ here | inr p ↦ absurd (none x p) ])
-    (subst (λ (p : Pat). TellsFaults (Contains (faults ++ fixed_faults s m r p)) result) is tells)
+    → pattern ≡ rule_expansion text m tree.pattern → TellsFaults (λ x. Contains (faults ++ fixed_faults s m r pattern) x ⊎ Contains (pattern_faults text m false tree.place.byte tree.pattern) x) result → TellsFaults (Contains (rule_faults text m tree)) result
+whole_told text s m tree r scopes read faults pattern result e is tells =
+    told_same (Found text s m tree r scopes read faults) (Contains (rule_faults text m tree)) result
+    (λ x h. found_into text s m tree r scopes read faults x e h)
+    (λ x h. out_found text s m tree r scopes read faults x e h)
+    (subst (λ (p : Pat). TellsFaults (λ x. Contains (faults ++ fixed_faults s m r p) x ⊎ Contains (pattern_faults text m false tree.place.byte tree.pattern) x) result) is tells)
 
 -- ---- what a rule means
 
@@ -257,17 +258,10 @@ module _ (text : Text) (s : Sights) (m group : ℕ) (tree : RuleTree) (r : RuleP
     body = body_is j;
   }
 
--- a pattern without faults has few variables
-pub few_variables : (text : Text) (m place : ℕ) (tree : PatternTree) → NoFault (Contains (pattern_faults text m false place tree)) → length (variables_of tree) ≤ 64
-few_variables text m place tree none = by (nat_lt 64 (pattern_nodes (pattern_expansion text m tree))) (nat_lt 64 (length (variables_of tree))) refl refl
+-- a pattern that isn't too wide has few variables
+pub few_variables : (expansion : Pat) (tree : PatternTree) → is_too_wide false expansion tree ≡ false → length (variables_of tree) ≤ 64
+few_variables expansion tree narrow = few (nat_lt 64 (pattern_nodes expansion)) narrow
   where
-    told : (b : Bool) → is_too_wide false (pattern_expansion text m tree) tree ≡ b → b ≡ true → ⊥
-    told b is holds = none (record { kind = kinds.TooWide; place = record { byte = place } })
-        (Contains-append_left (each_at kinds.BinderInChoice (binders_in_choice false tree) ++ each_at kinds.TooWide (wide_in_pattern tree) ++ each_at kinds.TooWide (at_if (is_too_wide false (pattern_expansion text m tree) tree) place)) (each_at kinds.NamedTwice (named_twice_in_pattern tree)) _
-        (Contains-append_right (each_at kinds.BinderInChoice (binders_in_choice false tree) ++ each_at kinds.TooWide (wide_in_pattern tree)) (each_at kinds.TooWide (at_if (is_too_wide false (pattern_expansion text m tree) tree) place)) _
-        (subst (λ (z : Bool). Contains (each_at kinds.TooWide (at_if z place)) (record { kind = kinds.TooWide; place = record { byte = place } })) (sym (is ∙ holds)) (one_is (record { kind = kinds.TooWide; place = record { byte = place } })))))
-
-    by : (a b : Bool) → nat_lt 64 (pattern_nodes (pattern_expansion text m tree)) ≡ a → nat_lt 64 (length (variables_of tree)) ≡ b → length (variables_of tree) ≤ 64
-    by true b is_a is_b = absurd (told true (λ j. is_a j || (true && is_b j)) refl)
-    by false true is_a is_b = absurd (told true (λ j. is_a j || (true && is_b j)) refl)
-    by false false is_a is_b = not_above 64 (length (variables_of tree)) is_b
+    few : (b : Bool) → (b || (true && nat_lt 64 (length (variables_of tree)))) ≡ false → length (variables_of tree) ≤ 64
+    few true e = cc
+    few false e = not_wider 64 (length (variables_of tree)) e

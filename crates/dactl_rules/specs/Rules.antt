@@ -1,8 +1,9 @@
 -- The faults of a rule, by what is read of it.
-use Rattle.std.specs.Prelude.{◌≡◌, ℕ, ◌<◌, not, List, [], ◌++◌, map, All, Contains, Option, Some, unwrap_or, length, if◌then◌else◌}
+use Rattle.std.specs.Prelude.{◌≡◌, ℕ, ◌≤◌, not, List, [], ◌++◌, map, All, Contains, Option, Some, unwrap_or, length, if◌then◌else◌}
 use Rattle.std.specs.List.{filter, filter_map, flat_map}
 use Rattle.std.specs.Borrow.{Bor}
 use Rattle.dactl_base.specs.declared.refusal.Kind.TheVariants as kinds
+use Rattle.dactl_base.specs.declared.refusal.Place.{Place}
 use Rattle.dactl_base.specs.declared.refusal.Refusal.{Refusal}
 use Rattle.dactl_base.specs.declared.refusal.TextFault.{TextFault}
 use Rattle.dactl_base.specs.declared.refusal.TextFault.TheVariants as fault
@@ -15,7 +16,6 @@ use Rattle.dactl_syntax.specs.declared.tree.RuleTree.{RuleTree}
 use Rattle.dactl_syntax.specs.Expansion.{is_among}
 use Rattle.dactl_syntax.specs.Contractum.{fresh_of, moves_of}
 use Rattle.dactl_syntax.specs.RuleFaults.{each_at, again, place_of, head_is, is_class}
-use Rattle.dactl_symbols.specs.Least.{sooner, TellsLeast}
 use Rattle.dactl_symbols.specs.Sights.{Sights}
 use Rattle.dactl_symbols.specs.Scoping.{seen_in, class_in}
 use Rattle.dactl_rules.specs.declared.reading.RuleParts.{RuleParts}
@@ -32,11 +32,10 @@ early_faults s m tree r =
     ++ flat_map (left_unbound r.variables) (words r.lefts.items)
     ++ each_at kinds.RedirectedTwice (map place_of (again (if tree.redirects then r.roots else []) (filter (λ n. is_among r.variables n.text) (words r.lefts.items))))
 
--- an answer for faults and the first fault of a pattern: the lesser of their first ones, where the left sides stand behind the pattern's fault
-abbrev pub IsAnswerFor : List Refusal → List (Bor Name) → Refusal → TextFault → Type 0
-IsAnswerFor faults lefts refusal fault.Memory = Unit {0}
-IsAnswerFor faults lefts refusal (fault.Refused r) =
-    All (λ n. refusal.place.byte < place_of n.now) lefts × ((least : Option Refusal) × (TellsLeast (Contains faults) least × (Some r ≡ sooner least (Some refusal))))
+-- an answer where this is the least fault but for those of left sides, which don't stand before the place
+abbrev pub IsAnswerFor : Option Refusal → List (Bor Name) → Place → TextFault → Type 0
+IsAnswerFor least lefts place fault.Memory = Unit {0}
+IsAnswerFor least lefts place (fault.Refused r) = (least ≡ Some r) × All (λ n. place.byte ≤ place_of n.now) lefts
 
 -- the left sides of variables whose nodes are not over-writable
 abbrev pub fixed_faults : Sights → ℕ → RuleParts → Pat → List Refusal

@@ -3,7 +3,7 @@ ghost use Rattle.std.specs.Prelude.{◌≡◌, [], ◌∷◌, IfOk, OnOk, map};
 ghost use Rattle.std.specs.List.{flat_map};
 ghost use Rattle.dactl_syntax.specs.Meaning.{rule_of};
 ghost use Rattle.dactl_syntax.specs.RuleFaults.{rule_faults};
-ghost use Rattle.dactl_patterns.specs.NamedPatterns.{AreNamed};
+ghost use Rattle.dactl_patterns.specs.Table.{AreNamed};
 ghost use Rattle.dactl_rules.specs.Listing.{placed};
 ghost use Rattle.dactl_rules.specs.RuleLists.{Adds, AddsGroups, HasRules, terms_of, placed_groups, groups_in};
 

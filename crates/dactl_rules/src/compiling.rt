@@ -11,7 +11,7 @@ ghost use Rattle.dactl_symbols.specs.Least.{TellsLeast};
 ghost use Rattle.dactl_symbols.specs.Scoping.{IsScopesOf, seen_in, symbols_in};
 ghost use Rattle.dactl_rules.specs.Initials.{initials_in, start_in};
 ghost use Rattle.dactl_rules.specs.Drafts.{IsDraft};
-ghost use Rattle.dactl_patterns.specs.NamedPatterns.{AreNamed};
+ghost use Rattle.dactl_patterns.specs.Table.{AreNamed};
 ghost use Rattle.dactl_rules.specs.Listing.{placed};
 ghost use Rattle.dactl_syntax.specs.Spelling.{IsSpelled};
 
@@ -21,12 +21,12 @@ use crate::listing::{Placed, items};
 use dactl_base::refusal::{Memory, Place, Refusal, TextFault};
 use dactl_model::arithmetic::arithmetic_rule;
 use dactl_model::program::{Op, Program, Rule};
-use dactl_patterns::{NamedPatterns, cycles, expansion_of, named_patterns};
+use dactl_patterns::{NamedPatterns, examine, named_patterns};
 use dactl_symbols::least::lesser;
 use dactl_symbols::sight::Scopes;
 use dactl_syntax::tree::{Item, PatternTree, Text};
 use sqlite_items::Items;
-use std::alloc::{AllocError, Global};
+use std::alloc::Global;
 
 /// The numbers of groups are below this one. More groups are want of memory.
 const GROUP_NUMBERS: u32 = 0x8000_0000;
@@ -41,11 +41,8 @@ fn pattern_fault(
     requires { AreNamed patterns.now }
     ensures { IfOk result (TellsLeast (Contains (pattern_faults patterns.now.text.now owner true place.byte tree.now))) }
 {
-    match expansion_of(alloc, patterns, owner, true, place, tree) {
-        Ok(_) => Ok(None),
-        Err(TextFault::Refused(refusal)) => Ok(Some(refusal)),
-        Err(TextFault::Memory) => Err(AllocError),
-    }
+    let examined = examine(alloc, patterns, owner, true, place, tree)?;
+    Ok(examined.fault)
 }
 
 fn named_fault(
@@ -139,7 +136,6 @@ pub fn program(alloc: Global, text: &Text, scopes: &Scopes) -> Result<Program, T
     ensures meaning { IfOk result (λ p. p ≡ program_of text.now) }
     ensures valid { IsSpelled text.now → NoFault (ScopeFault text.now) → IfOk result IsValid }
 {
-    cycles(alloc, text, scopes)?;
     let patterns = named_patterns(alloc, text, scopes)?;
     let items = items(alloc, text)?;
     let CompiledRules {

@@ -1,5 +1,5 @@
 //! The left sides of a rule's redirections.
-ghost use Rattle.std.specs.Prelude.{◌≡◌, ◌++◌, ◌&&◌, ◌<◌, ◌↔◌, not, All, IsTrue, IfOk, OnOk, map};
+ghost use Rattle.std.specs.Prelude.{◌≡◌, ◌++◌, ◌&&◌, ◌≤◌, ◌↔◌, not, All, IsTrue, IfOk, OnOk, map};
 ghost use Rattle.std.specs.List.{filter, flat_map};
 ghost use Rattle.dactl_base.specs.declared.refusal.Kind.TheVariants as kinds;
 ghost use Rattle.dactl_model.specs.declared.program.Class.TheVariants as classes;
@@ -115,9 +115,9 @@ pub fn not_overwritable(
     Ok(())
 }
 
-/// Whether all left sides stand behind the place.
-pub fn stand_behind(lefts: &[&Name], byte: u32) -> bool
-    ensures { IsTrue result ↔ All (λ n. byte < place_of n.now) lefts.now }
+/// Whether no left side stands before the place.
+pub fn are_behind(lefts: &[&Name], byte: u32) -> bool
+    ensures { IsTrue result ↔ All (λ n. byte ≤ place_of n.now) lefts.now }
 {
-    lefts.iter().all(|left| byte < left.place.byte)
+    lefts.iter().all(|left| byte <= left.place.byte)
 }

@@ -2,7 +2,7 @@
 ghost use Rattle.std.specs.Prelude.{◌≡◌, IfOk, map};
 ghost use Rattle.dactl_syntax.specs.Contractum.{term_of_part};
 ghost use Rattle.dactl_syntax.specs.Expansion as spec;
-ghost use Rattle.dactl_patterns.specs.NamedPatterns.{AreNamed};
+ghost use Rattle.dactl_patterns.specs.Table.{AreNamed};
 ghost use Rattle.dactl_rules.specs.Terms.{seen};
 ghost use Rattle.dactl_rules.specs.Reading.{IsRead};
 
@@ -11,8 +11,6 @@ use crate::lefts::lefts;
 use crate::roots::root_names;
 use crate::variables::Variables;
 use dactl_base::refusal::Memory;
-use dactl_patterns::names::variables;
-use dactl_patterns::occurrences::occurrences;
 use dactl_patterns::{NamedPatterns, head_symbol};
 use dactl_syntax::tree::{Name, Part, PatternTree, RuleTree, TermTree};
 use sqlite_items::Items;
@@ -48,15 +46,6 @@ fn terms<'a>(alloc: Global, parts: &'a [Part]) -> Result<Vec<&'a TermTree>, Memo
     Ok(terms)
 }
 
-fn variables_of(alloc: Global, tree: &PatternTree) -> Result<Variables, Memory>
-    ensures { IfOk result (λ variables. variables ≡ spec.variables_of tree.now) }
-{
-    let mut places = Vec::new(alloc);
-    occurrences(&mut places, tree, false)?;
-    let names = variables(alloc, places.as_slice())?;
-    Variables::new(alloc, names)
-}
-
 fn roots_of(alloc: Global, tree: &PatternTree) -> Result<Variables, Memory>
     ensures { IfOk result (λ roots. roots ≡ spec.root_names tree.now) }
 {
@@ -65,18 +54,20 @@ fn roots_of(alloc: Global, tree: &PatternTree) -> Result<Variables, Memory>
     Variables::new(alloc, names)
 }
 
-/// Reads a rule of the module.
+/// Reads a rule of the module, whose pattern has these variables.
 pub fn read<'a>(
     alloc: Global,
     patterns: &NamedPatterns,
     owner: usize,
     tree: &'a RuleTree,
+    variables: Items<Items<u8>>,
 ) -> Result<RuleParts<'a>, Memory>
-    requires { AreNamed patterns.now }
+    requires patterns { AreNamed patterns.now }
+    requires variables { variables ≡ spec.variables_of tree.now.pattern }
     ensures { IfOk result (IsRead patterns.now.text.now owner tree.now) }
 {
-    let head = head_symbol(patterns, owner, &tree.pattern);
-    let variables = variables_of(alloc, &tree.pattern)?;
+    let head = head_symbol(patterns, owner, &tree.pattern)?;
+    let variables = Variables::new(alloc, variables)?;
     let roots = roots_of(alloc, &tree.pattern)?;
     let lefts = lefts(alloc, tree.parts.as_slice())?;
     let terms = terms(alloc, tree.parts.as_slice())?;

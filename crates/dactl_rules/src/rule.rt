@@ -1,13 +1,15 @@
 //! A rule: its first fault, or what it means.
-ghost use Rattle.std.specs.Prelude.{◌≡◌, ◌≤◌, ◌++◌, ℕ, List, Contains, IfOk, length, map};
+ghost use Rattle.std.specs.Prelude.{◌≡◌, ◌≤◌, ◌++◌, ◌⊎◌, ℕ, List, Contains, IfOk, length, map};
 ghost use Rattle.std.specs.List.{flat_map};
 ghost use Rattle.dactl_model.specs.declared.program.Class.TheVariants as classes;
 ghost use Rattle.dactl_syntax.specs.Contractum.{term_of_part};
 ghost use Rattle.dactl_syntax.specs.Faults.{TellsFaults};
 ghost use Rattle.dactl_syntax.specs.Meaning.{rule_of};
 ghost use Rattle.dactl_syntax.specs.RuleFaults.{head_is, is_class, rule_faults};
+ghost use Rattle.dactl_base.specs.declared.refusal.Refusal.{Refusal};
+ghost use Rattle.dactl_symbols.specs.Least.{TellsLeast};
 ghost use Rattle.dactl_symbols.specs.Scoping.{class_in};
-ghost use Rattle.dactl_patterns.specs.NamedPatterns.{AreNamed};
+ghost use Rattle.dactl_patterns.specs.Table.{AreNamed};
 ghost use Rattle.dactl_rules.specs.Counting.{AreCountable};
 ghost use Rattle.dactl_rules.specs.Terms.{IsReady, AreDrawn};
 ghost use Rattle.dactl_rules.specs.Drawing.{made_in};
@@ -15,13 +17,13 @@ ghost use Rattle.dactl_rules.specs.Numbers.{found, node_number};
 ghost use Rattle.dactl_rules.specs.Rules.{early_faults as faults_before, fixed_faults, meant_of, IsAnswerFor};
 
 use crate::faults::{contractum_faults, fault_at, first};
-use crate::lefts::{not_overwritable, redirected_twice, stand_behind, unbound};
+use crate::lefts::{are_behind, not_overwritable, redirected_twice, unbound};
 use crate::overwriting::is_rewritable;
 use crate::reading::{RuleParts, read};
 use crate::variables::Variables;
-use dactl_base::refusal::{Kind, Memory, Refusal, TextFault};
+use dactl_base::refusal::{Kind, Memory, Place, Refusal, TextFault};
 use dactl_model::program::{Body, Pat, Rule};
-use dactl_patterns::{NamedPatterns, expansion_of};
+use dactl_patterns::{Examined, NamedPatterns, examine};
 use dactl_symbols::least::lesser;
 use dactl_symbols::sight::Scopes;
 use dactl_syntax::tree::{Name, RuleTree};
@@ -68,18 +70,15 @@ fn early_faults(
     Ok(faults)
 }
 
-/// The answer for a rule whose pattern has this first fault. Left sides that don't stand behind it,
-/// as those of every text do, are want of memory: what is over-writable is known of an expansion
-/// alone.
-fn refused(faults: &[Refusal], lefts: &[&Name], refusal: Refusal) -> TextFault
-    ensures { IsAnswerFor faults.now lefts.now refusal result }
+/// The answer for a rule whose pattern is too wide as a whole, where this is the first of its other
+/// faults and those of its pattern. Left sides before the rule's first token, which no text has, are
+/// want of memory: what is over-writable is known of an expansion alone.
+fn too_wide(least: Option<Refusal>, lefts: &[&Name], place: Place) -> TextFault
+    ensures { IsAnswerFor least lefts.now place result }
 {
-    if !stand_behind(lefts, refusal.place.byte) {
-        return TextFault::Memory;
-    }
-    match lesser(first(faults), Some(refusal)) {
-        Some(least) => TextFault::Refused(least),
-        None => TextFault::Memory,
+    match least {
+        Some(refusal) if are_behind(lefts, place.byte) => TextFault::Refused(refusal),
+        _ => TextFault::Memory,
     }
 }
 
@@ -120,7 +119,8 @@ fn meant(
     })
 }
 
-/// The first fault of a rule whose pattern has none, by those that are known, or what it means.
+/// The first fault of a rule by those that are known, that of its pattern and those of left sides
+/// whose nodes are not over-writable; or what it means.
 fn with_pattern(
     alloc: Global,
     scopes: &Scopes,
@@ -129,11 +129,12 @@ fn with_pattern(
     tree: &RuleTree,
     parts: &RuleParts,
     faults: Vec<Refusal>,
+    fault: Option<Refusal>,
     pattern: Pat,
 ) -> Result<Rule, TextFault>
     requires ready { IsReady parts.now.variables parts.now.contractum }
     requires drawn { AreDrawn (map term_of_part tree.now.parts) parts.now.contractum.drawing parts.now.contractum.targets.items }
-    ensures faults { TellsFaults (Contains (faults.items ++ fixed_faults scopes.now owner parts.now pattern)) result }
+    ensures faults { (told : List Refusal) → TellsLeast (Contains told) fault → TellsFaults (λ r. Contains (faults.items ++ fixed_faults scopes.now owner parts.now pattern) r ⊎ Contains told r) result }
     ensures meaning { IfOk result (λ r. r ≡ meant_of scopes.now owner group tree.now parts.now pattern) }
 {
     let mut faults = faults;
@@ -146,7 +147,7 @@ fn with_pattern(
         &pattern,
         parts.lefts.as_slice(),
     )?;
-    match first(faults.as_slice()) {
+    match lesser(first(faults.as_slice()), fault) {
         Some(refusal) => Err(TextFault::Refused(refusal)),
         None => Ok(meant(alloc, scopes, owner, group, tree, parts, pattern)?),
     }
@@ -165,23 +166,21 @@ pub fn rule(
     ensures meaning { IfOk result (λ r. r ≡ rule_of patterns.now.text.now owner group tree.now) }
     ensures counts { IfOk result (λ r. AreCountable (map term_of_part tree.now.parts)) }
 {
+    let Examined {
+        variables,
+        fault,
+        pat,
+    } = examine(alloc, patterns, owner, false, tree.place, &tree.pattern)?;
     let scopes = patterns.scopes;
-    let parts = read(alloc, patterns, owner, tree)?;
+    let parts = read(alloc, patterns, owner, tree, variables)?;
     let faults = early_faults(alloc, scopes, owner, tree, &parts)?;
-    match expansion_of(alloc, patterns, owner, false, tree.place, &tree.pattern) {
-        Ok(expanded) => with_pattern(
-            alloc,
-            scopes,
-            owner,
-            group,
-            tree,
-            &parts,
-            faults,
-            expanded.pat,
+    match pat {
+        Some(pattern) => with_pattern(
+            alloc, scopes, owner, group, tree, &parts, faults, fault, pattern,
         ),
-        Err(TextFault::Refused(refusal)) => {
-            Err(refused(faults.as_slice(), parts.lefts.as_slice(), refusal))
+        None => {
+            let least = lesser(first(faults.as_slice()), fault);
+            Err(too_wide(least, parts.lefts.as_slice(), tree.place))
         }
-        Err(TextFault::Memory) => Err(TextFault::Memory),
     }
 }

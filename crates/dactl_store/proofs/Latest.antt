@@ -35,12 +35,6 @@ latest_next version before after is latest newest = record {
   most = λ i d below. (let few = most_versioned version before after is latest.most i d below in omega (arith, few));
 }
 
-pub latest_later : (version : ℕ) (held : Held) → IsLatest version held → IsLatest (version + 1) held
-latest_later version held is = record {
-  newer = omega (arith, is.newer);
-  most = λ i d below. (let few = is.most i d below in omega (arith, few));
-}
-
 -- at the start each version but 0 is the latest
 pub latest_begun : (version : ℕ) (start : Start) (room : Room) (held : Held) → 0 < version → IsBegun start room held → IsLatest version held
 latest_begun version start room held some is = record {

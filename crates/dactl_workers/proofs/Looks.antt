@@ -36,7 +36,7 @@ use Rattle.dactl_state.specs.Runs.{Run}
 use Rattle.dactl_shared.specs.declared.store.SharedStore.{SharedStore}
 use Rattle.dactl_shared.specs.declared.store.WorkerSeat.{WorkerSeat}
 use Rattle.dactl_shared.specs.Stores.{WorksFor, gives_of, seen_of, mine_of, program_of, limits_of, IsStateAt, IsNodeAfter, Looks}
-use Rattle.dactl_shared.proofs.Turns.{node_found}
+use Rattle.dactl_shared.proofs.Nodes.{node_found}
 use Rattle.dactl_workers.specs.Work.{HasSeenEnd}
 use Rattle.dactl_workers.specs.Turns.{AreNodesAfter, IsKnownWith, IsActiveAfter, IsReadSince, HasTargetsAfter, HasLooked}
 

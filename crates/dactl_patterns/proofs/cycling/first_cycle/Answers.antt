@@ -1,7 +1,7 @@
 use Rattle.std.proofs.Common.{List, subst}
 use Rattle.std.proofs.lemmas.List.{take_all}
 use Rattle.dactl_symbols.specs.Least.{TellsLeast}
-use Rattle.dactl_patterns.specs.declared.cycling.Declared.{Declared}
+use Rattle.dactl_patterns.specs.declared.declarations.Declared.{Declared}
 use Rattle.dactl_patterns.specs.Cycles.{SomeCycle}
 use Rattle.dactl_patterns.proofs.CycleFaults.{one_more}
 use Rattle.dactl_patterns.proofs.cycling.first_cycle.Goals as goal

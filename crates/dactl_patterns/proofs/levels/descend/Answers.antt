@@ -2,7 +2,7 @@ use Rattle.std.proofs.Common.{List, subst}
 use Rattle.std.specs.Prelude.{All}
 use Rattle.std.proofs.lemmas.List.{take_all}
 use Rattle.std.proofs.lemmas.List.Elements.{All-more}
-use Rattle.dactl_patterns.specs.declared.cycling.Declared.{Declared}
+use Rattle.dactl_patterns.specs.declared.declarations.Declared.{Declared}
 use Rattle.dactl_patterns.specs.Levels.{level_in, DescendsAt}
 use Rattle.dactl_patterns.proofs.levels.descend.Goals as goal
 

@@ -11,21 +11,21 @@ use Rattle.dactl_rules.specs.Listing.{placed}
 use Rattle.dactl_rules.proofs.WholePrograms.{cycle_due, late_least, program_is, valid}
 use Rattle.dactl_rules.proofs.compiling.program.Goals as goal
 
-pub returns-in_err-cycles-clause-faults : goal.returns-in_err-cycles-clause-faults
-returns-in_err-cycles-clause-faults c =
+pub returns-in_err-patterns-clause-faults : goal.returns-in_err-patterns-clause-faults
+returns-in_err-patterns-clause-faults c =
     let p = err_from_is_err_and c.from_residual.result c.from_residual.ensures.1 in
-    rw (p.1, p.2) (cycle_due c.args.text.now c.in_err-cycles.field-0.0 c.in_err-cycles.ensures)
+    rw (p.1, p.2) (cycle_due c.args.text.now c.in_err-patterns.field-0.0 c.in_err-patterns.ensures.faults)
 
 pub returns-in-Some-clause-faults : goal.returns-in-Some-clause-faults
 returns-in-Some-clause-faults c =
     let drafted = subst (λ (t : Bor Text). IsDraft t.now c.in_ok-written.field-0) c.in_ok-patterns.ensures.text c.in_ok-written.ensures in
-    late_least c.args.text.now c.in-Some.refusal c.in_ok-cycles.ensures (subst (TellsLeast (RuleFault c.args.text.now)) c.in-Some.is drafted.tells)
+    late_least c.args.text.now c.in-Some.refusal c.in_ok-patterns.ensures.faults (subst (TellsLeast (RuleFault c.args.text.now)) c.in-Some.is drafted.tells)
 
 pub returns-clause-faults : goal.returns-clause-faults
 returns-clause-faults c =
     let drafted = subst (λ (t : Bor Text). IsDraft t.now c.in_ok-written.field-0) c.in_ok-patterns.ensures.text c.in_ok-written.ensures in
     let sound = subst (TellsLeast (RuleFault c.args.text.now)) c.in_default.is drafted.tells in
-    λ r h. elim h [ inl cycle ↦ c.in_ok-cycles.ensures r cycle | inr rule ↦ sound r rule ]
+    λ r h. elim h [ inl cycle ↦ c.in_ok-patterns.ensures.faults r cycle | inr rule ↦ sound r rule ]
 
 pub returns-clause-meaning : goal.returns-clause-meaning
 returns-clause-meaning c =
@@ -39,4 +39,4 @@ returns-clause-valid c = λ spelled scope.
     let drafted = subst (λ (t : Bor Text). IsDraft t.now c.in_ok-written.field-0) c.in_ok-patterns.ensures.text c.in_ok-written.ensures in
     let sound = subst (TellsLeast (RuleFault c.args.text.now)) c.in_default.is drafted.tells in
     let counted = drafted.counted c.in_default.is c.if-group-ge-GROUP_NUMBERS.false in
-    subst IsValid (sym (returns-clause-meaning c)) (valid c.args.text.now counted c.in_ok-cycles.ensures sound spelled scope)
+    subst IsValid (sym (returns-clause-meaning c)) (valid c.args.text.now counted c.in_ok-patterns.ensures.faults sound spelled scope)

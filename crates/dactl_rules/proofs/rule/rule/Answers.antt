@@ -1,12 +1,16 @@
-use Rattle.std.proofs.Common.{◌≡◌, ◌≤◌, ap, sym, ◌∙◌, subst, length, map, List, Contains, false}
+use Rattle.std.proofs.Common.{◌≡◌, ◌≤◌, ◌⊎◌, ap, sym, ◌∙◌, subst, length, map, List, Option, Contains, false}
 use Rattle.std.proofs.lemmas.Result.{IfOk-weaker, err_from_is_err_and}
-use Rattle.dactl_syntax.specs.Contractum.{Sketch}
-use Rattle.dactl_syntax.specs.Faults.{IsDueFault}
-use Rattle.dactl_syntax.specs.RuleFaults.{pattern_faults}
-use Rattle.dactl_rules.specs.Counting.{AreCounted}
 use Rattle.std.specs.Borrow.{Bor}
 use Rattle.dactl_base.specs.declared.refusal.Refusal.{Refusal}
+use Rattle.dactl_model.specs.declared.program.Pat.{Pat}
 use Rattle.dactl_syntax.specs.declared.tree.Name.{Name}
+use Rattle.dactl_syntax.specs.Contractum.{Sketch}
+use Rattle.dactl_syntax.specs.Expansion.{pattern_expansion}
+use Rattle.dactl_syntax.specs.RuleFaults.{pattern_faults}
+use Rattle.dactl_symbols.specs.Least.{TellsLeast}
+use Rattle.dactl_symbols.proofs.Sooner.{tells-sooner}
+use Rattle.dactl_patterns.specs.Expanded.{IsExpansion}
+use Rattle.dactl_rules.specs.Counting.{AreCounted}
 use Rattle.dactl_rules.specs.Rules.{meant_of, IsAnswerFor}
 use Rattle.dactl_rules.proofs.WholeRules.{few_variables, whole_told, answer_due, meant_is}
 use Rattle.dactl_rules.proofs.rule.rule.Goals as goal
@@ -19,32 +23,42 @@ returns-in_err-faults-clause-faults c =
 pub with_pattern-requires-clause-ready : goal.with_pattern-requires-clause-ready
 with_pattern-requires-clause-ready c =
     let read = c.in_ok-parts.ensures in
+    let tree = c.args.tree.now.pattern in
+    let found = subst (IsExpansion c.args.patterns.now.text.now c.args.owner false tree) c.in-Some.is c.in_ok-variables.ensures.pat in
     record {
-      few = subst (λ v. length v ≤ 64) (sym read.variables) (few_variables c.args.patterns.now.text.now c.args.owner c.args.tree.now.place.byte c.args.tree.now.pattern c.in-Ok.ensures.faults);
+      few = subst (λ v. length v ≤ 64) (sym read.variables) (few_variables (pattern_expansion c.args.patterns.now.text.now c.args.owner tree) tree found.0);
       small = read.small;
       given = read.given;
     }
 
-pub returns-in-Ok-clause-faults : goal.returns-in-Ok-clause-faults
-returns-in-Ok-clause-faults c =
-    whole_told c.args.patterns.now.text.now c.args.patterns.now.scopes.now c.args.owner c.args.tree.now c.in_ok-parts.parts c.requires.scopes c.in_ok-parts.ensures c.in_ok-faults.faults.items c.in-Ok.expanded.pat c.with_pattern.result
-    c.in_ok-faults.ensures c.in-Ok.ensures.faults c.in-Ok.ensures.expanded.pat c.with_pattern.ensures.faults
+pub returns-in-Some-clause-faults : goal.returns-in-Some-clause-faults
+returns-in-Some-clause-faults c =
+    let text = c.args.patterns.now.text.now in
+    let tree = c.args.tree.now in
+    let found = subst (IsExpansion text c.args.owner false tree.pattern) c.in-Some.is c.in_ok-variables.ensures.pat in
+    whole_told text c.args.patterns.now.scopes.now c.args.owner tree c.in_ok-parts.parts c.requires.scopes c.in_ok-parts.ensures c.in_ok-faults.faults.items c.in-Some.pattern c.with_pattern.result c.in_ok-faults.ensures found.1
+    (c.with_pattern.ensures.faults (pattern_faults text c.args.owner false tree.place.byte tree.pattern) c.in_ok-variables.ensures.fault)
 
-pub returns-in-Ok-clause-meaning : goal.returns-in-Ok-clause-meaning
-returns-in-Ok-clause-meaning c =
-    let is = ap (λ p. meant_of c.args.patterns.now.scopes.now c.args.owner c.args.group c.args.tree.now c.in_ok-parts.parts p) c.in-Ok.ensures.expanded.pat
-    ∙ meant_is c.args.patterns.now.text.now c.args.patterns.now.scopes.now c.args.owner c.args.group c.args.tree.now c.in_ok-parts.parts c.requires.scopes c.in_ok-parts.ensures in
+pub returns-in-Some-clause-meaning : goal.returns-in-Some-clause-meaning
+returns-in-Some-clause-meaning c =
+    let text = c.args.patterns.now.text.now in
+    let found = subst (IsExpansion text c.args.owner false c.args.tree.now.pattern) c.in-Some.is c.in_ok-variables.ensures.pat in
+    let is = ap (meant_of c.args.patterns.now.scopes.now c.args.owner c.args.group c.args.tree.now c.in_ok-parts.parts) found.1
+    ∙ meant_is text c.args.patterns.now.scopes.now c.args.owner c.args.group c.args.tree.now c.in_ok-parts.parts c.requires.scopes c.in_ok-parts.ensures in
     IfOk-weaker c.with_pattern.result _ _ (λ r e. e ∙ is) c.with_pattern.ensures.meaning
 
-pub returns-in-Ok-clause-counts : goal.returns-in-Ok-clause-counts
-returns-in-Ok-clause-counts c =
+pub returns-in-Some-clause-counts : goal.returns-in-Some-clause-counts
+returns-in-Some-clause-counts c =
     let read = c.in_ok-parts.ensures in
     IfOk-weaker c.with_pattern.result _ _ (λ r e. subst (λ (made : List Sketch). AreCounted made) read.drawn.made read.counts) c.with_pattern.ensures.meaning
 
-pub returns-in-Err-Refused-clause-faults : goal.returns-in-Err-Refused-clause-faults
-returns-in-Err-Refused-clause-faults c =
-    answer_due c.args.patterns.now.text.now c.args.patterns.now.scopes.now c.args.owner c.args.tree.now c.in_ok-parts.parts c.requires.scopes c.in_ok-parts.ensures c.in_ok-faults.faults.items c.in-Err-Refused.refusal c.refused.result
-    c.in_ok-faults.ensures (subst (IsDueFault (Contains (pattern_faults c.args.patterns.now.text.now c.args.owner false c.args.tree.now.place.byte c.args.tree.now.pattern))) c.in-Err-Refused.field-0-is c.in-Err-Refused.ensures.faults)
-    (subst (λ (l : List (Bor Name)). IsAnswerFor c.in_ok-faults.faults.items l c.in-Err-Refused.refusal c.refused.result) c.as_slice-in-Err-Refused.ensures.value
-    (subst (λ (l : List Refusal). IsAnswerFor l c.as_slice-in-Err-Refused.result.now c.in-Err-Refused.refusal c.refused.result) c.as_slice.ensures.value
-    (subst (λ (x : Refusal). IsAnswerFor c.as_slice.result.now c.as_slice-in-Err-Refused.result.now x c.refused.result) c.in-Err-Refused.refusal-is c.refused.ensures)))
+pub returns-clause-faults : goal.returns-clause-faults
+returns-clause-faults c =
+    let text = c.args.patterns.now.text.now in
+    let tree = c.args.tree.now in
+    let pattern = pattern_faults text c.args.owner false tree.place.byte tree.pattern in
+    let wide = subst (IsExpansion text c.args.owner false tree.pattern) c.in-None.is c.in_ok-variables.ensures.pat in
+    let first = subst (λ (l : List Refusal). TellsLeast (Contains l) c.first.result) c.as_slice.ensures.value c.first.ensures in
+    answer_due text c.args.patterns.now.scopes.now c.args.owner tree c.in_ok-parts.parts c.requires.scopes c.in_ok-parts.ensures c.in_ok-faults.faults.items c.lesser-least.result c.too_wide.result c.in_ok-faults.ensures wide
+    (subst (TellsLeast (λ x. Contains c.in_ok-faults.faults.items x ⊎ Contains pattern x)) (sym c.lesser-least.ensures) (tells-sooner (Contains c.in_ok-faults.faults.items) (Contains pattern) c.first.result c.in_ok-variables.field-0.fault first c.in_ok-variables.ensures.fault))
+    (subst (λ (l : List (Bor Name)). IsAnswerFor c.lesser-least.result l tree.place c.too_wide.result) c.as_slice-in-None.ensures.value c.too_wide.ensures)

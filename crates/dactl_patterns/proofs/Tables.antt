@@ -1,0 +1,80 @@
+-- One named pattern more in the table, and how many a text declares.
+use Rattle.std.proofs.Common.{◌≡◌, ℕ, zero, suc, ◌+◌, ◌≤◌, Bool, true, false, List, [], ◌∷◌, ◌++◌, map, length, cond, Option, Some, None, refl, sym, ap, ◌∙◌, subst, arith}
+use Rattle.std.specs.List.{flat_map, filter_map, cons_option, enumerate_from}
+use Rattle.std.proofs.lemmas.List.{length-append}
+use Rattle.std.proofs.lemmas.List.Elements.{filter_map-append}
+use Rattle.std.specs.Borrow.{Bor}
+use Rattle.indexmap.specs.IndexMap.{IndexMap, get}
+use Rattle.dactl_model.specs.declared.program.Pat.{Pat}
+use Rattle.dactl_syntax.specs.declared.tree.PatternTree.{PatternTree}
+use Rattle.dactl_syntax.specs.declared.tree.Item.{Item}
+use Rattle.dactl_syntax.specs.declared.tree.Item.TheVariants as item
+use Rattle.dactl_syntax.specs.declared.tree.Module.{Module}
+use Rattle.dactl_syntax.specs.declared.tree.Text.{Text}
+use Rattle.dactl_syntax.specs.Declarations.{Placed, items_of, item_pattern}
+use Rattle.dactl_syntax.specs.Expansion.{named_count, named_expansion}
+use Rattle.dactl_syntax.specs.Meaning.{NamedPattern}
+use Rattle.dactl_patterns.specs.declared.named.Known.{Known}
+use Rattle.dactl_patterns.specs.declared.named.NamedPatterns.{NamedPatterns}
+use Rattle.dactl_patterns.specs.Cycles.{declared_at, declared_from, all_declared}
+use Rattle.dactl_patterns.specs.Levels.{is_same}
+use Rattle.dactl_patterns.specs.Table.{IsKnown, IsRight, IsRightFrom}
+use Rattle.dactl_patterns.proofs.Gaining.{same-true}
+
+-- ---- the table
+
+module _ {S : Type 0} (old new : IndexMap NamedPattern Known S) (at : NamedPattern) (known : Known) (named : NamedPattern → Pat)
+    (updates : (q : NamedPattern) → get is_same new q ≡ cond (is_same at q) (Some known) (get is_same old q))
+    (before : (a : NamedPattern) (k : Known) → get is_same old a ≡ Some k → IsKnown (named a) k) (here : IsKnown (named at) known) where
+  -- what is known of each is right with one more that is
+  pub table_more : (a : NamedPattern) (k : Known) → get is_same new a ≡ Some k → IsKnown (named a) k
+  table_more a k found = by (is_same at a) refl
+    where
+      same_some : Some known ≡ Some k → known ≡ k
+      same_some e = cc
+
+      by : (b : Bool) → is_same at a ≡ b → IsKnown (named a) k
+      by true same =
+          subst (λ (z : NamedPattern). IsKnown (named z) k) (same-true at a same)
+          (subst (IsKnown (named at)) (same_some (ap (λ (b : Bool). cond b (Some known) (get is_same old a)) (sym same) ∙ sym (updates a) ∙ found)) here)
+      by false same = before a k (ap (λ (b : Bool). cond b (Some known) (get is_same old a)) (sym same) ∙ sym (updates a) ∙ found)
+
+-- with one named pattern more it is right from the next depth on
+pub right_next : (depth : ℕ) (old new : NamedPatterns) → new.text ≡ old.text → IsRightFrom depth old
+    → ((d : ℕ) → IsRight (named_expansion old.text.now d) old → IsRight (named_expansion old.text.now (suc d)) old → IsRight (named_expansion old.text.now (suc d)) new) → IsRightFrom (depth + 1) new
+right_next depth old new same before step = next
+  where
+    next : (d : ℕ) → depth + 1 ≤ d → IsRight (named_expansion new.text.now d) new
+    next zero le = absurd (omega arith)
+    next (suc d) le = subst (λ (t : Bor Text). IsRight (named_expansion t.now (suc d)) new) (sym same) (step d (before d (omega arith)) (before (suc d) (omega arith)))
+
+-- ---- how many named patterns are declared
+
+abbrev pattern_at : Placed → Option PatternTree
+pattern_at i = item_pattern i.item
+
+abbrev placed : ℕ → ℕ → List Item → List Placed
+placed m j its = map (λ i. record { owner = m; number = i.0; item = i.1 }) (enumerate_from j its)
+
+counts_item : (m j : ℕ) (i : Item) (rest : List PatternTree) → length (cons_option (item_pattern i) rest) ≡ length (declared_at m j i) + length rest
+counts_item m j (item.Imports names) rest = omega arith
+counts_item m j (item.Symbols class public names) rest = omega arith
+counts_item m j (item.Named public name pattern) rest = omega arith
+counts_item m j (item.Rules groups) rest = omega arith
+counts_item m j (item.Initial place terms) rest = omega arith
+
+counts_items : (m j : ℕ) (its : List Item) → length (filter_map pattern_at (placed m j its)) ≡ length (declared_from m j its)
+counts_items m j [] = refl
+counts_items m j (i ∷ its) =
+    omega (arith, counts_item m j i (filter_map pattern_at (placed m (j + 1) its)), counts_items m (j + 1) its, length-append (declared_at m j i) (declared_from m (j + 1) its))
+
+counts_modules : (m : ℕ) (ms : List Module) → length (filter_map pattern_at (flat_map items_of (enumerate_from m ms))) ≡ length (all_declared m ms)
+counts_modules m [] = refl
+counts_modules m (x ∷ ms) =
+    let after = flat_map items_of (enumerate_from (m + 1) ms) in
+    ap length (filter_map-append pattern_at (items_of (m, x)) after)
+    ∙ length-append (filter_map pattern_at (items_of (m, x))) (filter_map pattern_at after)
+    ∙ omega (arith, counts_items m 0 x.items, counts_modules (m + 1) ms, length-append (declared_from m 0 x.items) (all_declared (m + 1) ms))
+
+pub counted : (text : Text) → named_count text ≡ length (all_declared 0 text.modules)
+counted text = counts_modules 0 text.modules

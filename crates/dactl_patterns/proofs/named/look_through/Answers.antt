@@ -1,0 +1,5 @@
+use Rattle.std.proofs.Common.{None}
+use Rattle.dactl_patterns.proofs.named.look_through.Goals as goal
+
+pub returns : goal.returns
+returns c = λ named right. record { head = c.in_ok-head.ensures named None right; small = c.in_ok-small.ensures.is named right }
