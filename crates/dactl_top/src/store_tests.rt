@@ -1,10 +1,11 @@
 //! Runs on whole graphs and on the store, side by side: the graph with its marks, the versions and the woken
 //! nodes after each entry.
 
-ghost use Rattle.std.specs.Prelude.{◌≡◌, ◌<◌, ◌≤◌, ◌^◌, IfOk, IfSome, length};
+ghost use Rattle.std.specs.Prelude.{◌≡◌, ◌+◌, ◌<◌, ◌≤◌, ◌^◌, IfOk, IfSome, length};
 ghost use Rattle.dactl_model.specs.Graphs.{HasNode, IsSmall, IsWellFormed};
 ghost use Rattle.dactl_model.specs.Matching.{IsActive};
 ghost use Rattle.dactl_model.specs.Programs.{IsValid};
+ghost use Rattle.dactl_store.specs.Redirecting.{IsLatest};
 
 use crate::compile::compile;
 use crate::testing::{APPEND, BOTH, CHAIN, CHOICES, KEPT_FLAG, SHARED_CELL, SUM, TWO_OF_ONE};
@@ -31,11 +32,13 @@ fn step(
     requires formed { IsWellFormed graph.now }
     requires small { length graph.now.nodes < 2 ^ 31 }
     requires same { store.old.graph ≡ graph.now }
+    requires latest { IsLatest entry store.old }
     requires room { store.old.room.nodes ≤ woken.old.room }
     requires node { HasNode graph.now node }
     requires active { IsActive graph.now node }
     ensures formed { IfOk result IsWellFormed }
     ensures same { IfOk result (λ after. store.new.graph ≡ after) }
+    ensures latest { IfOk result (λ _. IsLatest (entry + 1) store.new) }
     ensures room { store.new.room.nodes ≤ woken.new.room }
 {
     match choose(alloc, program, graph, node)? {
@@ -197,12 +200,13 @@ fn entries_alike(alloc: Global, program: &Program) -> Result<Option<u32>, AllocE
     let mut graph = start_graph(alloc, program)?;
     let mut woken = Woken::with_room(alloc, NODES)?;
     let mut versions = vec![in alloc; 0u32; graph.nodes.len()]?;
-    for entry in 1..=40 {
+    for done in 0..40 {
+        let entry = done + 1;
         if graph.nodes.len() > NODES as usize {
             return Ok(None);
         }
         let Some(node) = first_active(&graph) else {
-            return Ok(Some(entry - 1));
+            return Ok(Some(done));
         };
         let after = step(alloc, program, &graph, &mut store, node, entry, &mut woken)?;
         if after.nodes.len() > NODES as usize || !is_alike(&store, &after) {

@@ -1,7 +1,8 @@
-use Rattle.std.proofs.Common.{◌≡◌, ◌≤◌}
+use Rattle.std.proofs.Common.{◌≡◌, ◌+◌, ◌≤◌}
 use Rattle.dactl_model.specs.Graphs.{IsWellFormed}
+use Rattle.dactl_store.specs.Redirecting.{IsLatest}
 use Rattle.dactl_top.proofs.store_tests.entries_alike.Given as goal
 
--- the store has the graph, and there is room for all woken nodes
-abbrev pub invariant-loop-entry : goal.invariant-loop-entry
-invariant-loop-entry l = IsWellFormed l.graph × (l.store.graph ≡ l.graph) × (l.store.room.nodes ≤ l.woken.room)
+-- the store has the graph, no version is greater than the next, and there is room for all woken nodes
+abbrev pub invariant-loop-done : goal.invariant-loop-done
+invariant-loop-done l = IsWellFormed l.graph × (l.store.graph ≡ l.graph) × IsLatest (l.done + 1) l.store × (l.store.room.nodes ≤ l.woken.room)
