@@ -5,7 +5,9 @@ use dactl_base::memory::{MemorySink, MemorySource};
 use dactl_model::graph::Entry;
 use dactl_workers::{Gate, WorkerReport};
 use std::alloc::{AllocError, Global};
+use std::sync::Wait;
 use std::sync::atomic::{AtomicBool, AtomicU64, Ordering};
+use std::thread::Threads;
 
 /// The numbers of some reports, added up.
 #[derive(Clone, Copy)]
@@ -64,40 +66,45 @@ fn adds_up(answered: &Answered) -> bool {
         && sums.commits == answered.kept.journal.len() as u64
 }
 
+// Whether a sample is added by so many workers, and their reports add up.
+fn is_added<R: Threads + Wait + Sync>(
+    rt: &R,
+    alloc: Global,
+    words: &str,
+    workers: u8,
+    output: &str,
+) -> Result<bool, AllocError> {
+    let answered = called(rt, alloc, words, "")?;
+    Ok(answered.is(0, output.as_bytes()) && has_reports(&answered, workers) && adds_up(&answered))
+}
+
 // The sums of samples do not depend on who adds them.
 #[test]
 fn samples_are_added_by_any_workers(rt: HostRuntime) -> Result<(), AllocError> {
+    let large = "normal 24997\n@1 12497500\n";
     for (words, workers, output) in [
         ("--sample|4|--workers|1", 1, "normal 17\n@1 6\n"),
         ("--sample|4", 4, "normal 17\n@1 6\n"),
-        ("--sample|64|--workers|16", 16, "normal 317\n@1 2016\n"),
-        (
-            "--sample|5000|--workers|1",
-            1,
-            "normal 24997\n@1 12497500\n",
-        ),
-        (
-            "--sample|5000|--workers|2",
-            2,
-            "normal 24997\n@1 12497500\n",
-        ),
-        (
-            "--sample|5000|--workers|4",
-            4,
-            "normal 24997\n@1 12497500\n",
-        ),
-        (
-            "--sample|5000|--workers|16",
-            16,
-            "normal 24997\n@1 12497500\n",
-        ),
+        ("--sample|5000|--workers|1", 1, large),
+        ("--sample|5000|--workers|2", 2, large),
+        ("--sample|5000|--workers|4", 4, large),
     ] {
-        let answered = called(&rt, rt.alloc(), words, "")?;
-        assert!(rt; answered.is(0, output.as_bytes()), "{words}");
         assert!(rt;
-            has_reports(&answered, workers) && adds_up(&answered),
+            is_added(&rt, rt.alloc(), words, workers, output)?,
             "{words}"
         );
+    }
+    Ok(())
+}
+
+// There may be more workers than processors.
+#[test]
+fn samples_are_added_by_sixteen_workers(rt: HostRuntime) -> Result<(), AllocError> {
+    for (words, output) in [
+        ("--sample|64|--workers|16", "normal 317\n@1 2016\n"),
+        ("--sample|1000|--workers|16", "normal 4997\n@1 499500\n"),
+    ] {
+        assert!(rt; is_added(&rt, rt.alloc(), words, 16, output)?, "{words}");
     }
     Ok(())
 }
