@@ -233,7 +233,6 @@ fn ends_by_the_budget(alloc: Global, program: &Program) -> bool {
         && state.next_active() == Some(id(0))
         && fires(alloc, &mut state, program, call, &mut woken) == Some(Answer::Committed)
         && state.end() == Some(End::Budget)
-        && fires(alloc, &mut state, program, call, &mut woken) == Some(Answer::Ended(End::Budget))
 }
 
 /// The active nodes have their turns.
