@@ -2,9 +2,10 @@ mod matching;
 mod nodes;
 mod programs;
 
-ghost use Rattle.std.specs.Prelude.{◌≡◌, ◌≤◌, IfOk, IsTrue};
+ghost use Rattle.std.specs.Prelude.{◌≡◌, ◌+◌, ◌≤◌, IfOk, IsTrue};
 ghost use Rattle.dactl_model.specs.Matching.{FitsWord, delta};
 ghost use Rattle.dactl_model.specs.Programs.{IsValid as IsValidProgram};
+ghost use Rattle.dactl_store.specs.Redirecting.{IsLatest};
 
 use crate::arithmetic::result_label;
 use crate::{Full, fire, note};
@@ -25,7 +26,8 @@ use std::time::Instant;
 
 fn begin(alloc: Global, program: &Program, room: Room) -> Result<Store, BeginCause>
     requires { IsValidProgram program.now }
-    ensures { IfOk result (λ store. store.room ≡ room) }
+    ensures room { IfOk result (λ store. store.room ≡ room) }
+    ensures latest { IfOk result (IsLatest 1) }
 {
     Store::begin(alloc, &program.start, room)
 }
@@ -48,7 +50,8 @@ fn answers(
     full: Option<Full>,
     wakes: &[NodeId],
 ) -> bool
-    requires { IsValidProgram program.now }
+    requires program { IsValidProgram program.now }
+    requires latest { IsLatest 1 store.old }
 {
     let [node, ..] = bound;
     let count = store.next_number();
@@ -286,8 +289,10 @@ fn fires(
     woken: &mut Woken,
 ) -> bool
     requires program { IsValidProgram program.now }
+    requires latest { IsLatest entry store.old }
     requires room { store.old.room.nodes ≤ woken.old.room }
-    ensures { store.new.room.nodes ≤ woken.new.room }
+    ensures room { store.new.room.nodes ≤ woken.new.room }
+    ensures latest { IsTrue result → IsLatest (entry + 1) store.new }
 {
     let [node, ..] = bound;
     node.number < store.next_number()
@@ -298,6 +303,7 @@ fn fires(
 /// How often the rule fires, each time at the active node, up to so many times.
 fn firings(program: &Program, store: &mut Store, most: u32, woken: &mut Woken) -> u32
     requires program { IsValidProgram program.now }
+    requires latest { IsLatest 1 store.old }
     requires room { store.old.room.nodes ≤ woken.old.room }
 {
     for entry in 0..most {
@@ -324,6 +330,7 @@ fn measured(
     woken: &mut Woken,
 ) -> Result<u32, Fail>
     requires program { IsValidProgram program.now }
+    requires latest { IsLatest 1 store.old }
     requires room { store.old.room.nodes ≤ woken.old.room }
 {
     let begun = Instant::now(rt)?;

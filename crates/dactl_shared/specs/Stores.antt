@@ -14,7 +14,7 @@ use Rattle.dactl_model.specs.Firing.{start_of}
 use Rattle.dactl_model.specs.Steps.{Reduction}
 use Rattle.dactl_model.specs.Versions.{IsShown}
 use Rattle.dactl_state.specs.declared.state.Answer.{Answer}
-use Rattle.dactl_state.specs.Runs.{Run, IsCourse, Commits}
+use Rattle.dactl_state.specs.Runs.{Run, IsCourse, Commits, TellsRest}
 use Rattle.dactl_turn.specs.declared.rule.Give.{Give}
 use Rattle.dactl_turn.specs.declared.rule.Joined.{Joined}
 use Rattle.dactl_turn.specs.declared.lock.Turn.{Turn}
@@ -128,7 +128,8 @@ pub record Looks (s : SharedStore) (old new : WorkerSeat) (Tells : Run → Type 
   pub tells : Tells run
 
 -- a turn that commits: what it answers is what the state after the gives found answers, which begin with those that
--- the seat had seen; the seat has then seen them and the turn's own, after which the state is the next one
+-- the seat had seen; the seat has then seen them and the turn's own, after which the state is the next one;
+-- where it is full it tells exactly what is left
 pub record TakesStep (s : SharedStore) (old new : WorkerSeat) (event : Event) (readings : List Reading) (answer : Answer)
     (woken : List NodeId) : Type 0 where
   pub found : List Give
@@ -139,6 +140,7 @@ pub record TakesStep (s : SharedStore) (old new : WorkerSeat) (event : Event) (r
   pub after : gives_of new ≡ found ++ give (entry_by answer old.number event) next.full ∷ []
   pub stands : IsStateAt (program_of s) (limits_of s) (gives_of new) next
   pub commits : Commits run next event readings old.number woken answer
+  pub rest : TellsRest run answer
 
 -- the entry has the number of one of these seats
 abbrev pub IsSigned : List Joined → Entry → Type 0

@@ -199,6 +199,7 @@ impl SharedStore {
         ensures counts { SameCounts seat.old seat.new }
     {
         let held = self.turn.take(rt, &mut seat.seat);
+        // What it ensures of the state shows that the node is there.
         held.state.count();
         let reading = held.state.read(node);
         self.turn.give(&mut seat.seat, held, None);

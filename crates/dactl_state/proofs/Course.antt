@@ -2,7 +2,7 @@
 use Rattle.std.proofs.Common.{◌≡◌, inl, inr, ℕ, ◌+◌, ◌-◌, ◌<◌, ◌≤◌, List, [], ◌∷◌, ◌++◌, take, refl, sym, ap, ◌∙◌, subst, append-nil, length, length-append, All, Option, Some, None, IsSomeAnd, get_or, lt_of_not-le, arith}
 use mathlib.Core.Logic.{dite}
 use native.Mathlib.Decide.{dec_le}
-use Rattle.std.proofs.lemmas.List.{take_all}
+use Rattle.std.proofs.Math.Seq.{take-length}
 use Rattle.std.proofs.lemmas.Option.{slice_get_cases, slice_get-get_or}
 use Rattle.std.proofs.lemmas.List.Elements.{All-weaker}
 use Rattle.dactl_model.specs.declared.graph.NodeId.{NodeId}
@@ -14,7 +14,6 @@ use Rattle.dactl_model.specs.declared.graph.Limits.{Limits}
 use Rattle.dactl_model.specs.declared.graph.Event.{Event}
 use Rattle.dactl_model.specs.declared.graph.Event.TheVariants.{Fire, Note}
 use Rattle.dactl_model.specs.declared.graph.Entry.{Entry}
-use Rattle.dactl_model.specs.declared.graph.End.{End}
 use Rattle.dactl_model.specs.declared.graph.End.TheVariants.{Full as FullEnd}
 use Rattle.dactl_model.specs.declared.program.Program.{Program}
 use Rattle.dactl_model.specs.declared.reading.Reading.{Reading}
@@ -40,7 +39,7 @@ use Rattle.dactl_firing.specs.Fired.{HasFired}
 use Rattle.dactl_firing.specs.Fired as firing
 use Rattle.dactl_firing.specs.declared.firing.Full.{Full as Counts}
 use Rattle.dactl_state.specs.Histories.{IsHistory}
-use Rattle.dactl_state.specs.Grown.{HasNotGrown, entry_of}
+use Rattle.dactl_state.specs.Grown.{entry_of}
 use Rattle.dactl_state.specs.Ends.{EndBy}
 use Rattle.dactl_state.specs.Runs.{Run, IsCourse, IsKeptEnd, IsWithin, IsRest, IsStepped, IsOpen, IsCurrent, EndOf, HasRoom, room_of}
 use Rattle.dactl_state.proofs.Stepping.{begun_keeps, stepped, noted_versions, acts_of_last}
@@ -67,7 +66,7 @@ begun_course p limits h valid begun fine = record { valid = valid; run = begun_k
 
 -- what is read is shown by the whole journal
 pub read_shown : (r : Run) (n : NodeId) (rd : Reading) → IsCourse r → HasNode r.held.graph n → IsReadingOf r.held n rd → IsShown r.program r.journal rd
-read_shown r n rd k has read = let whole : take (length r.journal) r.journal ≡ r.journal = take_all (length r.journal) r.journal (omega arith) in record {
+read_shown r n rd k has read = let whole : take (length r.journal) r.journal ≡ r.journal = take-length r.journal in record {
   prefix = r.journal;
   rest = [];
   parts = sym (append-nil r.journal);
@@ -83,6 +82,7 @@ turned_course r active k fine = record { valid = k.valid; run = record { reduced
 pub entry_left : (r : Run) → IsCourse r → EndOf r None → length r.journal < r.limits.budget
 entry_left r k told = let few = k.few in let other = told.2 in dite (dec_le r.limits.budget (length r.journal)) (λ le. absurd (other (let e : length r.journal ≡ r.limits.budget = omega arith in e))) (λ n. lt_of_not-le n)
 
+-- an active node is there
 pub active_has : (h : Held) (n : NodeId) → IsActive h.graph n → HasNode h.graph n
 active_has h n active = elim (slice_get_cases h.graph.nodes n.number).1 [
   | inl (node, below, at, is) ↦ below

@@ -3,3 +3,4 @@ pub mod Nodes
 pub mod NotGrown
 pub mod Stepping
 pub mod Course
+pub mod Shown

@@ -1,13 +1,13 @@
 -- A step that is entered keeps that a store is where the journal leads, and its versions.
 use Rattle.std.proofs.Common.{◌≡◌, ◌≢◌, ⊎_elim, ℕ, zero, suc, ◌+◌, ◌≤◌, pred, map, List, [], ◌∷◌, ◌++◌, take, refl, sym, ap, ◌∙◌, subst, length, length-append, Option, Some, slice_get, inl, inr, arith}
-use Rattle.std.proofs.lemmas.List.{take-append-le, take_all}
+use Rattle.std.proofs.Math.Seq.{take-append_seam}
+use Rattle.std.proofs.lemmas.List.{take_all}
 use Rattle.std.proofs.lemmas.Option.{slice_get_cases}
 use Rattle.dactl_model.specs.declared.graph.NodeId.{NodeId}
 use Rattle.dactl_model.specs.declared.graph.Arc.{Arc}
 use Rattle.dactl_model.specs.declared.graph.Node.{Node}
 use Rattle.dactl_model.specs.declared.graph.Graph.{Graph}
 use Rattle.dactl_model.specs.declared.graph.Entry.{Entry}
-use Rattle.dactl_model.specs.declared.graph.Event.TheVariants.{Fire, Note}
 use Rattle.dactl_model.specs.declared.graph.Room.{Room}
 use Rattle.dactl_model.specs.declared.program.Program.{Program}
 use Rattle.dactl_model.specs.declared.program.FreshNode.{FreshNode}
@@ -20,7 +20,7 @@ use Rattle.dactl_model.specs.Acts.{HasActs, acts_of_step}
 use Rattle.dactl_model.specs.Versions.{content, content_of, IsVersion}
 use Rattle.dactl_model.proofs.Reductions.{Reduction-push}
 use Rattle.dactl_model.proofs.VersionSteps.{version_stays, version_changes, versions_begin}
-use Rattle.dactl_store.specs.Held.{Held, IsVersionAt}
+use Rattle.dactl_store.specs.Held.{Held}
 use Rattle.dactl_store.specs.Redirecting.{IsVersioned}
 use Rattle.dactl_store.specs.Start.{IsBegun}
 use Rattle.dactl_state.specs.Histories.{IsHistory}
@@ -63,7 +63,7 @@ pub acts_of_last : (p : Program) (journal : List Entry) (g after : Graph) (e : E
 acts_of_last p journal g after e woken run run_on acts = let l = length-append journal (e ∷ []) in
     let whole : take (length journal + 1) (journal ++ e ∷ []) ≡ journal ++ e ∷ [] = take_all (length journal + 1) (journal ++ e ∷ []) (omega arith) in
     let less : pred (length journal + 1) ≡ length journal = omega arith in
-    let front : take (pred (length journal + 1)) (journal ++ e ∷ []) ≡ journal = ap (λ (k : ℕ). take k (journal ++ e ∷ [])) less ∙ (take-append-le (length journal) journal (e ∷ []) (omega arith) ∙ take_all (length journal) journal (omega arith)) in record {
+    let front : take (pred (length journal + 1)) (journal ++ e ∷ []) ≡ journal = ap (λ (k : ℕ). take k (journal ++ e ∷ [])) less ∙ take-append_seam journal (e ∷ []) in record {
       entry = e;
       before = g;
       after = after;

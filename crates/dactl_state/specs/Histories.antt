@@ -14,5 +14,6 @@ use Rattle.dactl_store.specs.Held.{Held, IsVersionAt}
 -- number of the entries
 pub record IsHistory (p : Program) (journal : List Entry) (held : Held) : Type 0 where
   pub reduced : Reduction p (start_of p.start) journal held.graph
-  pub versions : (n : NodeId) (v : ℕ) → HasNode held.graph n → IsVersionAt held n v → IsVersion p journal n v
+  pub versions : (n : NodeId) (v : ℕ) → HasNode held.graph n → IsVersionAt held n v
+      → IsVersion p journal n v
   pub newest : held.newest ≤ length journal

@@ -6,3 +6,6 @@
 mod state;
 
 pub use state::{Answer, Finished, NotBegun, State};
+
+#[cfg(test)]
+mod tests;

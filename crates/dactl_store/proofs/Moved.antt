@@ -1,5 +1,5 @@
 -- What a contract sees once all arcs are changed alike.
-use Rattle.std.proofs.Common.{◌≡◌, ◌≢◌, ℕ, zero, suc, ◌+◌, ◌<◌, ◌≤◌, Bool, true, false, not, ◌&&◌, cond, eqb, ltb, List, [], ◌∷◌, length, get_or, map, take, drop, count_by, All, Option, Some, None, refl, sym, ap, ◌∙◌, arith, subst, inl, inr}
+use Rattle.std.proofs.Common.{◌≡◌, ◌≢◌, ℕ, zero, suc, ◌+◌, ◌<◌, ◌≤◌, Bool, true, false, not, cond, eqb, List, [], ◌∷◌, length, get_or, map, take, drop, All, Option, Some, None, refl, sym, ap, ◌∙◌, arith, subst, inl, inr}
 use Rattle.std.specs.List.{list_any, slice_get}
 use Rattle.std.proofs.lemmas.Bool.{eqb-true, eq-eqb, cases_Bool, both_ways, or_parts, or_from}
 use Rattle.std.proofs.lemmas.List.{length-map, take-map, take-append-drop}
@@ -14,7 +14,6 @@ use Rattle.dactl_model.specs.declared.graph.Room.{Room}
 use Rattle.dactl_model.specs.Firing.{redirected_arc}
 use Rattle.dactl_model.specs.Versions.{Content, content}
 use Rattle.dactl_store.specs.declared.table.Span.{Span}
-use Rattle.dactl_store.specs.declared.table.NodeRecord.{NodeRecord}
 use Rattle.dactl_store.specs.Table.{Table, no_node, record_of}
 use Rattle.dactl_store.specs.Layout.{arc_of, own_part, node_of, graph_of, version_of, held_of, AreLaid, spans_of, IsStore}
 use Rattle.dactl_store.specs.Redirecting.{number_pairs, sent, redirected_node, redirected, IsVersioned, IsLatest, AreNodes}

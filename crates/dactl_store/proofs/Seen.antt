@@ -1,16 +1,16 @@
 -- What a contract sees of the parts of a store.
-use Rattle.std.proofs.Common.{◌≡◌, ℕ, zero, suc, ◌+◌, ◌-◌, ◌<◌, ◌≤◌, Bool, true, false, List, [], ◌∷◌, ◌++◌, length, get_or, map, drop, All, sum_by, Option, Some, None, refl, sym, ap, ◌∙◌, arith, subst}
+use Rattle.std.proofs.Common.{◌≡◌, ℕ, zero, suc, ◌+◌, ◌-◌, ◌<◌, ◌≤◌, Bool, true, false, List, [], ◌∷◌, length, get_or, map, drop, All, sum_by, Option, Some, None, refl, sym, ap, ◌∙◌, arith, subst}
 use Rattle.std.specs.List.{slice_get}
 use Rattle.std.specs.Option.{IsSomeAnd, is_some, option_map}
 use Rattle.std.specs.Bool.{MatchBool}
-use Rattle.std.proofs.lemmas.Bool.{both_ways, cond-true}
+use Rattle.std.proofs.lemmas.Bool.{both_ways}
 use Rattle.std.proofs.lemmas.Option.{none-some, slice_get-map}
 use Rattle.std.proofs.lemmas.Bool.Decides.{nat_tests}
 use Rattle.std.proofs.lemmas.List.{length-map, get_or_default, length-take}
 use Rattle.std.proofs.lemmas.List.Elements.{All-map}
 use Rattle.std.proofs.lemmas.List.Sums.{sum_by-cons}
 use Rattle.dactl_active.specs.Ring.{has, turned}
-use Rattle.dactl_active.proofs.Numbers.{Lacks-from_has, without-lacking, has-at_front}
+use Rattle.dactl_active.proofs.Numbers.{has-at_front}
 use Rattle.dactl_arcs.specs.declared.lists.ArcRecord.{ArcRecord}
 use Rattle.dactl_arcs.specs.Pool.{Pool}
 use Rattle.dactl_model.specs.declared.graph.NodeId.{NodeId}
@@ -25,7 +25,7 @@ use Rattle.dactl_model.specs.Acts.{marks_active}
 use Rattle.dactl_model.specs.Matching.{IsActive}
 use Rattle.dactl_model.specs.Ending.{arcs_of, IsPassive}
 use Rattle.dactl_store.specs.declared.table.NodeRecord.{NodeRecord}
-use Rattle.dactl_store.specs.Table.{Table, no_node, record_of, is_active, ring_with, IsValidTable}
+use Rattle.dactl_store.specs.Table.{Table, no_node, record_of, is_active, IsValidTable}
 use Rattle.dactl_store.specs.Held.{Held, IsValid, HasActive, IsLast, IsReadingOf, left_in}
 use Rattle.dactl_store.specs.Layout.{arc_of, own_part, node_of, graph_of, version_of, held_of, spans_of, IsStore}
 use Rattle.dactl_store.proofs.Laying.{no_span, laid_span, arcs_together, length-own_part, own_part_at}

@@ -2,6 +2,8 @@ pub mod Subsequences
 pub mod OwnActs
 pub mod Done
 pub mod Offers
+pub mod Fronts
+pub mod Known
 pub mod Looks
 pub mod Tried
 pub mod Gone

@@ -16,6 +16,7 @@ use Rattle.dactl_model.specs.declared.graph.End.{End}
 use Rattle.dactl_model.specs.declared.graph.End.TheVariants.{Normal, Budget, Full as FullEnd}
 use Rattle.dactl_model.specs.declared.program.Program.{Program}
 use Rattle.dactl_model.specs.declared.reading.Reading.{Reading}
+use Rattle.dactl_model.specs.Programs.{IsValid}
 use Rattle.dactl_model.specs.Matching.{IsActive}
 use Rattle.dactl_model.specs.Firing.{start_of}
 use Rattle.dactl_model.specs.Steps.{Reduction}
@@ -24,21 +25,32 @@ use Rattle.dactl_model.specs.Versions.{IsVersion}
 use Rattle.dactl_model.proofs.Pairs.{All-slice_get}
 use Rattle.dactl_model.proofs.Reductions.{same_reduction}
 use Rattle.dactl_model.proofs.KeptFire.{begins_well_formed}
+use Rattle.dactl_turn.specs.declared.rule.Give.{Give}
 use Rattle.dactl_turn.specs.Gives.{listed, entries_of, StartsWith, give}
-use Rattle.dactl_turn.proofs.Gives.{entries_of-snoc}
+use Rattle.dactl_turn.proofs.Gives.{entries_of-snoc, entries_of-append}
 use Rattle.dactl_state.specs.declared.state.Answer.{Answer}
 use Rattle.dactl_state.specs.declared.state.Answer.TheVariants.{Committed, Stale, Passive, Full, Ended}
 use Rattle.dactl_state.specs.Grown.{entry_of, IsFirstGrown}
-use Rattle.dactl_state.specs.Ends as ends
 use Rattle.dactl_state.specs.Runs.{Run, EndOf}
 use Rattle.dactl_shared.specs.declared.store.SharedStore.{SharedStore}
 use Rattle.dactl_shared.specs.declared.store.WorkerSeat.{WorkerSeat}
 use Rattle.dactl_shared.specs.Counts.{entry_by, raised, stale_by, passive_by}
-use Rattle.dactl_shared.specs.Stores.{WorksFor, gives_of, seen_of, mine_of, program_of, limits_of, SameCounts, IsNodeAfter, TakesStep}
+use Rattle.dactl_shared.specs.Endings.{HasSeenEnd, TellsEnd}
+use Rattle.dactl_shared.specs.Stores.{WorksFor, gives_of, seen_of, mine_of, program_of, limits_of, SameCounts, MayRead, IsStateAt, TakesStep}
 use Rattle.dactl_workers.specs.Accounts.{LastActs}
-use Rattle.dactl_workers.specs.Work.{HasSeenEnd}
 use Rattle.dactl_workers.specs.Turns.{IsActiveAfter, IsReadSince, HasLooked, Tells}
-use Rattle.dactl_workers.proofs.Looks.{starts_trans, longer_than, no_shorter, entries_start, state_run, state_valid, node_stays}
+use Rattle.dactl_shared.proofs.Later.{step_known}
+use Rattle.dactl_workers.proofs.Fronts.{starts_trans, longer_than, no_shorter}
+
+entries_start : (gs front : List Give) → StartsWith gs front → StartsWith (entries_of gs) (entries_of front)
+entries_start gs front b = (entries_of b.0, ap entries_of b.1 ∙ entries_of-append front b.0)
+
+-- the graph of a state is where its entries lead
+state_run : (p : Program) (limits : Limits) (gs : List Give) (r : Run) → IsStateAt p limits gs r → Reduction p (start_of p.start) (entries_of gs) r.held.graph
+state_run p limits gs r at = subst (λ (z : Program × List Entry). Reduction z.0 (start_of z.0.start) z.1 r.held.graph) (λ i. (at.program i, at.entries i)) at.course.run.reduced
+
+state_valid : (p : Program) (limits : Limits) (gs : List Give) (r : Run) → IsStateAt p limits gs r → IsValid p
+state_valid p limits gs r at = subst IsValid at.program at.course.valid
 
 -- a node has one version after a journal
 one_version : (p : Program) (journal : List Entry) (n : NodeId) (k l : ℕ) → IsVersion p journal n k → IsVersion p journal n l → k < l → ⊥
@@ -56,17 +68,6 @@ acts_few : (before : Graph) (n : NodeId) (k : ℕ) (nodes : List Node) → lengt
 acts_few before n k [] = omega arith
 acts_few before n k (node ∷ nodes) = let h = acts_few before n (k + 1) nodes in grind arith
 
--- a node that was made active is one of the nodes
-acts_below : (before : Graph) (n : NodeId) (k : ℕ) (nodes : List Node) → All (λ (m : NodeId). m.number < k + length nodes) (acts_from before n k nodes)
-acts_below before n k [] = λ i d lt. absurd (omega arith)
-acts_below before n k (node ∷ nodes) = let below : NodeId → Type 0 = λ (m : NodeId). m.number < k + length (node ∷ nodes) in
-    let rest : All below (acts_from before n (k + 1) nodes) = All-weaker (λ (m : NodeId). m.number < (k + 1) + length nodes) below (λ m lt. omega arith) (acts_from before n (k + 1) nodes) (acts_below before n (k + 1) nodes) in
-    either below (marks_active node.mark && (not (active_in (slice_get before.nodes k)) || (k == n.number))) (record { number = k }) (acts_from before n (k + 1) nodes) (let at : k < k + length (node ∷ nodes) = omega arith in at) rest
-  where
-    either : (P : NodeId → Type 0) (b : Bool) (m : NodeId) (ms : List NodeId) → P m → All P ms → All P (if b then m ∷ ms else ms)
-    either P true m ms here all = All-cons P m ms here all
-    either P false m ms here all = all
-
 -- the seat before a node was tried, after its readings and after its commit
 pub record Tried (s : SharedStore) (w g e : WorkerSeat) (event : Event) (rs : List Reading) (answer : Answer) (woken : List NodeId) : Type 0 where
   pub looked : HasLooked s w g
@@ -77,6 +78,7 @@ pub record Tried (s : SharedStore) (w g e : WorkerSeat) (event : Event) (rs : Li
   pub mine : mine_of e ≡ mine_of g ++ listed (entry_by answer g.number event)
   pub stale : e.stale ≡ stale_by answer g.stale
   pub passive : e.passive ≡ passive_by answer g.passive
+  pub ended : TellsEnd answer → HasSeenEnd s e
   pub since : All (IsReadSince (program_of s) (seen_of w) (seen_of g)) rs
 
 module _ (s : SharedStore) (w g e : WorkerSeat) (event : Event) (rs : List Reading) (woken : List NodeId) where
@@ -93,12 +95,6 @@ module _ (s : SharedStore) (w g e : WorkerSeat) (event : Event) (rs : List Readi
   seen_at : (answer : Answer) (t : Trial answer) → seen_of e ≡ entries_of t.step.found ++ listed (entry_by answer g.number event)
   seen_at answer t = ap entries_of t.step.after ∙ entries_of-snoc t.step.found (give (entry_by answer g.number event) t.step.next.full)
 
-  -- nodes that were there before a commit are there after it
-  pub nodes_tried : (answer : Answer) → Trial answer → (n : NodeId) → IsNodeAfter p (seen_of g) n → IsNodeAfter p (seen_of e) n
-  nodes_tried answer t n there = let given = give (entry_by answer g.number event) t.step.next.full in let l = t.step.later in
-      let on : StartsWith (gives_of e) (gives_of g) = starts_trans (gives_of e) t.step.found (gives_of g) (given ∷ [], t.step.after) l in
-      node_stays p (limits_of s) (gives_of e) (gives_of g) t.step.next n t.step.stands on there
-
   -- a commit without an entry only looks
   only_looked : (answer : Answer) → Trial answer → entry_by answer g.number event ≡ None → HasLooked s w e
   only_looked answer t none = let seen : seen_of e ≡ entries_of t.step.found = seen_at answer t ∙ (ap (λ z. entries_of t.step.found ++ listed z) none ∙ append-nil (entries_of t.step.found)) in let on = found_on answer t in record {
@@ -106,7 +102,7 @@ module _ (s : SharedStore) (w g e : WorkerSeat) (event : Event) (rs : List Readi
     number = t.number ∙ t.looked.number;
     later = (on.0, seen ∙ on.1);
     mine = t.mine ∙ (ap (λ z. mine_of g ++ listed z) none ∙ (append-nil (mine_of g) ∙ t.looked.mine));
-    nodes = λ n there. nodes_tried answer t n (t.looked.nodes n there);
+    nodes = λ n there. step_known s g e event rs answer woken n t.step (t.looked.nodes n there);
   }
 
   seen_found : (answer : Answer) (t : Trial answer) → entry_by answer g.number event ≡ None → entries_of t.step.found ≡ seen_of e
@@ -127,17 +123,6 @@ module _ (s : SharedStore) (w g e : WorkerSeat) (event : Event) (rs : List Readi
       (same_reduction p (start_of p.start) was.0 t.step.run.held.graph (seen_of w) valid (begins_well_formed p valid) was.1
       (subst (λ (z : List Entry). Reduction p (start_of p.start) z t.step.run.held.graph) (seen_found answer t none ∙ same) (state_run p (limits_of s) t.step.found t.step.run at))) was.2))
 
-  -- the state's end is seen
-  ended : (answer : Answer) (t : Trial answer) (end : End) → entry_by answer g.number event ≡ None → t.step.next ≡ t.step.run → EndOf t.step.run (Some end) → HasSeenEnd s e
-  ended answer t end none same told = ⊎_elim
-      (λ (is : t.step.run.full ≡ Some end). inl (end, sym t.step.stands.end ∙ (ap (λ (z : Run). z.full) same ∙ is)))
-      (λ other. by_kind end other.1) told
-    where
-      by_kind : (k : End) → ends.IsSeenEnd t.step.run.held.graph (length t.step.run.journal) t.step.run.limits.budget k → HasSeenEnd s e
-      by_kind Normal none_active = inr (inl (t.step.run.held.graph, subst (λ (z : List Entry). Reduction p (start_of p.start) z t.step.run.held.graph) (seen_found answer t none) (state_run p (limits_of s) t.step.found t.step.run t.step.is), none_active))
-      by_kind Budget told = inr (inr (ap length (sym (seen_found answer t none) ∙ sym t.step.is.entries) ∙ (told.0 ∙ ap (λ (z : Limits). z.budget) t.step.is.limited)))
-      by_kind (FullEnd n r needed left) told = absurd told
-
   -- as many nodes as were made active there are
   few_woken : (answer : Answer) (t : Trial answer) → LastActs p (seen_of e) woken → length woken ≤ (limits_of s).nodes
   few_woken answer t acts = let stands = t.step.stands in let k = length (seen_of e) in let valid = state_valid p (limits_of s) (gives_of e) t.step.next stands in
@@ -147,12 +132,6 @@ module _ (s : SharedStore) (w g e : WorkerSeat) (event : Event) (rs : List Readi
       let few = acts_few acts.before (node_of_event acts.entry.event) 0 acts.after.nodes in let is : length woken ≡ length (acts_from acts.before (node_of_event acts.entry.event) 0 acts.after.nodes) = ap length acts.acts in
       let nodes : length acts.after.nodes ≡ length t.step.next.held.graph.nodes = ap (λ (z : Graph). length z.nodes) same in let within = stands.course.store.nodes in
       let room : t.step.next.held.room.nodes ≡ (limits_of s).nodes = ap (λ (z : Room). z.nodes) stands.course.room ∙ ap (λ (z : Limits). z.nodes) stands.limited in omega arith
-
-  -- and each of them is there
-  woken_there : (answer : Answer) (t : Trial answer) → LastActs p (seen_of e) woken → All (IsNodeAfter p (seen_of e)) woken
-  woken_there answer t acts = let k = length (seen_of e) in let whole : take k (seen_of e) ≡ seen_of e = take_all k (seen_of e) (omega arith) in let run = subst (λ (z : List Entry). Reduction p (start_of p.start) z acts.after) whole acts.reduced_on in
-      subst (All (IsNodeAfter p (seen_of e))) (sym acts.acts) (All-weaker (λ (m : NodeId). m.number < 0 + length acts.after.nodes) (IsNodeAfter p (seen_of e)) (λ m lt. (acts.after, run, let l = lt in omega arith))
-      (acts_from acts.before (node_of_event acts.entry.event) 0 acts.after.nodes) (acts_below acts.before (node_of_event acts.entry.event) 0 acts.after.nodes))
 
   pub tells : (n : NodeId) (answer : Answer) → node_of_event event ≡ n → Trial answer → Tells s n w e woken answer
   tells n Committed is t = let c = t.step.commits in let step = c.2 in let stands = t.step.stands in let number = t.looked.number in
@@ -168,14 +147,11 @@ module _ (s : SharedStore) (w g e : WorkerSeat) (event : Event) (rs : List Readi
         counts = (t.stale ∙ t.counts.0, t.passive ∙ t.counts.1);
         few_entries = omega arith;
         few_nodes = few_woken Committed t acts;
-        there = woken_there Committed t acts;
       }
   tells n (Stale m was now) is t = let c = t.step.commits in let longer = grown_longer (Stale m was now) t c.1.0 now c.1.3 in let all : length (entries_of t.step.found) ≡ length (seen_of e) = ap length (seen_found (Stale m was now) t refl) in
       let most = raised_most g.stale in let a = t.stale in let b = t.counts.0 in
       (only_looked (Stale m was now) t refl, omega arith, omega arith, t.passive ∙ t.counts.1)
   tells n Passive is t = let c = t.step.commits in let most = raised_most g.passive in let a = t.passive in let b = t.counts.1 in
       (only_looked Passive t refl, passive_longer Passive t n refl (subst (λ (m : NodeId). IsActive t.step.run.held.graph m → ⊥) is c.1), t.stale ∙ t.counts.0, omega arith)
-  tells n (Full m rule needed left) is t = let c = t.step.commits in let full : t.step.next.full ≡ Some (FullEnd m rule needed left) = ap (λ (z : Run). z.full) c.4 in
-      (only_looked (Full m rule needed left) t refl, (t.stale ∙ t.counts.0, t.passive ∙ t.counts.1), inl (FullEnd m rule needed left, sym t.step.stands.end ∙ full))
-  tells n (Ended end) is t = let c = t.step.commits in
-      (only_looked (Ended end) t refl, (t.stale ∙ t.counts.0, t.passive ∙ t.counts.1), ended (Ended end) t end refl c.1 c.0)
+  tells n (Full m rule needed left) is t = (only_looked (Full m rule needed left) t refl, (t.stale ∙ t.counts.0, t.passive ∙ t.counts.1), t.ended tt)
+  tells n (Ended end) is t = (only_looked (Ended end) t refl, (t.stale ∙ t.counts.0, t.passive ∙ t.counts.1), t.ended tt)

@@ -17,14 +17,15 @@ use Rattle.dactl_state.specs.declared.state.Answer.TheVariants.{Committed, Stale
 use Rattle.dactl_state.specs.Grown.{entry_of}
 use Rattle.dactl_shared.specs.declared.store.SharedStore.{SharedStore}
 use Rattle.dactl_shared.specs.declared.store.WorkerSeat.{WorkerSeat}
-use Rattle.dactl_shared.specs.Stores.{WorksFor, seen_of, mine_of, program_of, limits_of, SameCounts, IsNodeAfter}
+use Rattle.dactl_shared.specs.Endings.{HasSeenEnd}
+use Rattle.dactl_shared.specs.Stores.{WorksFor, seen_of, mine_of, program_of, limits_of, SameCounts, MayRead}
 use Rattle.dactl_workers.specs.declared.worker.Worker.{Worker}
 use Rattle.dactl_workers.specs.Accounts.{IsSubsequence, LastActs, HasDone}
-use Rattle.dactl_workers.specs.Work.{HasSeenEnd, account_of}
+use Rattle.dactl_workers.specs.Work.{account_of}
 
--- the nodes with numbers below this are there after these entries
-abbrev pub AreNodesAfter : Program → List Entry → ℕ → Type 0
-AreNodesAfter p entries known = (n : NodeId) → n.number < known → IsNodeAfter p entries n
+-- the nodes with numbers below this may be read through the seat
+abbrev pub MayReadBelow : SharedStore → WorkerSeat → ℕ → Type 0
+MayReadBelow s w known = (n : NodeId) → n.number < known → MayRead s w n
 
 -- all that is below the count is below what was known before, or no greater than one of these nodes
 abbrev pub IsKnownWith : ℕ → List NodeId → ℕ → Type 0
@@ -41,9 +42,9 @@ pub record IsReadSince (p : Program) (start now : List Entry) (r : Reading) : Ty
   pub until : StartsWith now at
   pub version : IsVersion p at r.node r.version
 
--- the targets of the reading are there after these entries
-abbrev pub HasTargetsAfter : Program → List Entry → Reading → Type 0
-HasTargetsAfter p entries r = (n : NodeId) → Contains (targets_of r.targets) n → IsNodeAfter p entries n
+-- the targets of the reading may be read through the seat
+abbrev pub MayReadTargets : SharedStore → WorkerSeat → Reading → Type 0
+MayReadTargets s w r = All (MayRead s w) (targets_of r.targets)
 
 -- the seat has seen more since, and made no entry
 pub record HasLooked (store : SharedStore) (old new : WorkerSeat) : Type 0 where
@@ -51,7 +52,7 @@ pub record HasLooked (store : SharedStore) (old new : WorkerSeat) : Type 0 where
   pub number : new.number ≡ old.number
   pub later : StartsWith (seen_of new) (seen_of old)
   pub mine : mine_of new ≡ mine_of old
-  pub nodes : (n : NodeId) → IsNodeAfter (program_of store) (seen_of old) n → IsNodeAfter (program_of store) (seen_of new) n
+  pub nodes : (n : NodeId) → MayRead store old n → MayRead store new n
 
 -- the seat has made an entry, and the nodes are those that it made active
 pub record HasCommitted (store : SharedStore) (old new : WorkerSeat) (woken : List NodeId) : Type 0 where
@@ -65,7 +66,6 @@ pub record HasCommitted (store : SharedStore) (old new : WorkerSeat) (woken : Li
   pub counts : SameCounts old new
   pub few_entries : length (seen_of new) ≤ (limits_of store).budget
   pub few_nodes : length woken ≤ (limits_of store).nodes
-  pub there : All (IsNodeAfter (program_of store) (seen_of new)) woken
 
 -- what the answer tells of the seat before the node n was tried and after: a stale commit shows that more was seen since,
 -- and so does a passive one of a node that was active; an end that was answered was seen
@@ -92,7 +92,7 @@ module _ {H : Type 0} (put taken : H → List NodeId) (back : H → ℕ) where
 pub record IsSeated {H : Type 0} (store : SharedStore) (w : Worker H) : Type 0 where
   pub own : WorksFor store w.seat
   pub woken : (limits_of store).nodes ≤ w.woken.room
-  pub known : AreNodesAfter (program_of store) (seen_of w.seat) w.known
+  pub known : MayReadBelow store w.seat w.known
   pub worker : w.report.worker ≡ w.seat.number
 
 -- the footprint is there, with room for each probe
@@ -115,12 +115,12 @@ pub record HasGone {H : Type 0} (put taken : H → List NodeId) (back : H → �
 -- a node that is there, and that the worker took from the board since, or that is active in what it has then seen
 abbrev pub IsChosen : {H : Type 0} → SharedStore → Worker H → Worker H → NodeId → Type 0
 IsChosen s old new n =
-    IsNodeAfter (program_of s) (seen_of new.seat) n × ((new.report.taken ≡ old.report.taken + 1) ⊎ IsActiveAfter (program_of s) (seen_of new.seat) n)
+    MayRead s new.seat n × ((new.report.taken ≡ old.report.taken + 1) ⊎ IsActiveAfter (program_of s) (seen_of new.seat) n)
 
 -- a node that the hand took since, and that was there in what the seat had seen, is the one that is tried
 abbrev pub TriesTaken : {H : Type 0} → (H → List NodeId) → SharedStore → Worker H → Worker H → Option NodeId → Type 0
 TriesTaken taken s old new result =
-    (n : NodeId) → taken new.hand ≡ taken old.hand ++ n ∷ [] → IsNodeAfter (program_of s) (seen_of old.seat) n → result ≡ Some n
+    (n : NodeId) → taken new.hand ≡ taken old.hand ++ n ∷ [] → MayRead s old.seat n → result ≡ Some n
 
 -- the worker after a commit and its offers
 abbrev pub with_offers : {H : Type 0} → Worker H → H → ℕ → ℕ → ℕ → Worker H

@@ -2,11 +2,10 @@
 use Rattle.std.specs.Prelude.{◌≡◌, ℕ, ◌≤◌, List, IsSomeAnd, Some}
 use Rattle.dactl_model.specs.declared.graph.NodeId.{NodeId}
 use Rattle.dactl_model.specs.Rooms.{Observed, NodeList}
-use Rattle.dactl_turn.specs.Gives.{end_of}
 use Rattle.dactl_shared.specs.declared.store.SharedStore.{SharedStore}
 use Rattle.dactl_shared.specs.declared.store.WorkerSeat.{WorkerSeat}
-use Rattle.dactl_shared.specs.Endings.{HasEndAt}
-use Rattle.dactl_shared.specs.Stores.{WorksFor, gives_of, seen_of, program_of, limits_of}
+use Rattle.dactl_shared.specs.Endings.{HasSeenEnd}
+use Rattle.dactl_shared.specs.Stores.{WorksFor, seen_of, program_of, limits_of}
 use Rattle.dactl_workers.specs.declared.report.WorkerReport.{WorkerReport}
 use Rattle.dactl_workers.specs.declared.worker.Worker.{Worker}
 use Rattle.dactl_workers.specs.Accounts.{Account, HasDone}
@@ -14,10 +13,6 @@ use Rattle.dactl_workers.specs.Accounts.{Account, HasDone}
 -- a report of zeros
 abbrev pub no_report : ℕ → WorkerReport
 no_report worker = record { worker = worker; commits = 0; offered = 0; refused = 0; taken = 0; stale = 0; passive = 0 }
-
--- there is an end in what the seat has seen
-abbrev pub HasSeenEnd : SharedStore → WorkerSeat → Type 0
-HasSeenEnd s w = HasEndAt (program_of s) (limits_of s) (seen_of w) (end_of (gives_of w))
 
 module _ {H : Type 0} where
   -- a worker as it is made

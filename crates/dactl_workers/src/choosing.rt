@@ -1,8 +1,8 @@
 //! Which node a worker tries next.
 
 ghost use Rattle.std.specs.Prelude.{◌≡◌, ◌+◌, ◌∷◌, [], ◌++◌, IfSome, MatchBool, MatchOption};
-ghost use Rattle.dactl_shared.specs.Stores.{seen_of, program_of, SameCounts, IsNodeAfter};
-ghost use Rattle.dactl_workers.specs.Work.{HasSeenEnd};
+ghost use Rattle.dactl_shared.specs.Stores.{seen_of, program_of, SameCounts, MayRead};
+ghost use Rattle.dactl_shared.specs.Endings.{HasSeenEnd};
 ghost use Rattle.dactl_workers.specs.Turns.{IsSeated, IsCounted, HasLooked, HasGone, IsChosen, IsActiveAfter, TriesTaken};
 
 use crate::knowing::known_with;
@@ -48,8 +48,8 @@ impl<H> Worker<H> {
         ensures looked { HasLooked store.now self.old.seat self.new.seat }
         ensures counts { SameCounts self.old.seat self.new.seat }
         ensures there { MatchBool result
-            (IsNodeAfter (program_of store.now) (seen_of self.new.seat) node)
-            (IsNodeAfter (program_of store.now) (seen_of self.old.seat) node → ⊥) }
+            (MayRead store.now self.new.seat node)
+            (MayRead store.now self.old.seat node → ⊥) }
     {
         if u64::from(node.number) < self.known {
             return true;
@@ -73,7 +73,7 @@ impl<H> Worker<H> {
         ensures gone { HasGone B.put B.taken B.back store.now self.old self.new }
         ensures footprint { self.new.footprint ≡ self.old.footprint }
         ensures counts { SameCounts self.old.seat self.new.seat }
-        ensures there { IfSome result (IsNodeAfter (program_of store.now) (seen_of self.new.seat)) }
+        ensures there { IfSome result (MayRead store.now self.new.seat) }
         ensures took { IfSome result (λ _. self.new.report.taken ≡ self.old.report.taken + 1) }
         ensures tries { TriesTaken B.taken store.now self.old self.new result }
     {
@@ -94,7 +94,7 @@ impl<H> Worker<H> {
         ensures same { self.new ≡ record self.old { seat = self.new.seat; known = self.new.known } }
         ensures looked { HasLooked store.now self.old.seat self.new.seat }
         ensures counts { SameCounts self.old.seat self.new.seat }
-        ensures there { IfSome result (IsNodeAfter (program_of store.now) (seen_of self.new.seat)) }
+        ensures there { IfSome result (MayRead store.now self.new.seat) }
         ensures active { MatchOption result
             (HasSeenEnd store.now self.new.seat)
             (IsActiveAfter (program_of store.now) (seen_of self.new.seat)) }

@@ -1,7 +1,7 @@
 //! How woken nodes go to the board.
 
 ghost use Rattle.std.specs.Prelude.{◌≡◌, ℕ, ◌+◌, ◌*◌, ◌-◌, ◌^◌, ◌<◌, ◌≤◌, [], ◌∷◌, All, length};
-ghost use Rattle.dactl_shared.specs.Stores.{seen_of, mine_of, program_of, limits_of, IsNodeAfter};
+ghost use Rattle.dactl_shared.specs.Stores.{mine_of, limits_of, MayRead};
 ghost use Rattle.dactl_workers.specs.Turns.{IsSeated, IsCounted, IsOffered, with_offers};
 
 use crate::knowing::known_with_last;
@@ -56,8 +56,7 @@ impl<H> Worker<H> {
     )
         requires seated { IsSeated store.now self.old }
         requires counted { IsCounted (B.fits board.now) B.back store.now self.old }
-        requires there { All (IsNodeAfter (program_of store.now) (seen_of self.old.seat))
-            self.old.woken.list }
+        requires there { All (MayRead store.now self.old.seat) self.old.woken.list }
         requires one_more { self.old.report.commits + 1 ≤ length (mine_of self.old.seat) }
         requires entries { length (mine_of self.old.seat) ≤ (limits_of store.now).budget }
         requires nodes { length self.old.woken.list ≤ (limits_of store.now).nodes }

@@ -3,9 +3,8 @@
 ghost use Rattle.std.specs.Prelude.{◌≡◌, ◌≤◌, [], All, length};
 ghost use Rattle.dactl_model.specs.Acts.{node_of_event};
 ghost use Rattle.dactl_model.specs.RuleTold.{Shows};
-ghost use Rattle.dactl_model.specs.Versions.{IsShown};
-ghost use Rattle.dactl_shared.specs.Stores.{WorksFor, seen_of, program_of, SameCounts, IsNodeAfter};
-ghost use Rattle.dactl_workers.specs.Turns.{IsSeated, HasFootprint, AreNodesAfter, HasLooked, IsReadSince, Tells};
+ghost use Rattle.dactl_shared.specs.Stores.{WorksFor, seen_of, program_of, SameCounts, MayRead, WasShown};
+ghost use Rattle.dactl_workers.specs.Turns.{IsSeated, HasFootprint, MayReadBelow, HasLooked, IsReadSince, Tells};
 
 use crate::gate::Gate;
 use crate::knowing::known_with_targets;
@@ -28,18 +27,17 @@ fn gather<G: Gate, R: Wait>(
     mut probe: Probe,
 ) -> Attempt
     requires own { WorksFor store.now seat.old }
-    requires known { AreNodesAfter (program_of store.now) (seen_of seat.old) known.old }
+    requires known { MayReadBelow store.now seat.old known.old }
     requires program { probe.decisions.program ≡ program_of store.now }
     requires none { probe.readings ≡ [] }
-    requires node { IsNodeAfter (program_of store.now) (seen_of seat.old) probe.node }
+    requires node { MayRead store.now seat.old probe.node }
     ensures looked { HasLooked store.now seat.old seat.new }
     ensures counts { SameCounts seat.old seat.new }
-    ensures known { AreNodesAfter (program_of store.now) (seen_of seat.new) known.new }
+    ensures known { MayReadBelow store.now seat.new known.new }
     ensures shows { Shows (program_of store.now) result.footprint.readings
         result.footprint.bindings result.event }
     ensures node { node_of_event result.event ≡ probe.entry.node }
-    ensures shown { All (IsShown (program_of store.now) (seen_of seat.new))
-        result.footprint.readings }
+    ensures shown { All (WasShown store.now seat.new) result.footprint.readings }
     ensures since { All (IsReadSince (program_of store.now) (seen_of seat.old) (seen_of seat.new))
         result.footprint.readings }
     ensures room { result.footprint.room ≡ probe.entry.room }
@@ -66,7 +64,7 @@ impl<H> Worker<H> {
         requires deciders { deciders.now.program ≡ program_of store.now }
         requires footprint { HasFootprint deciders.now.widest self.old }
         requires seated { IsSeated store.now self.old }
-        requires node { IsNodeAfter (program_of store.now) (seen_of self.old.seat) node }
+        requires node { MayRead store.now self.old.seat node }
         ensures footprint { HasFootprint deciders.now.widest self.new }
         ensures seated { IsSeated store.now self.new }
         ensures same { self.new ≡ record self.old {
@@ -75,6 +73,7 @@ impl<H> Worker<H> {
           woken = self.new.woken;
           known = self.new.known;
         } }
+        ensures there { All (MayRead store.now self.new.seat) self.new.woken.list }
         ensures tells { Tells store.now node self.old.seat self.new.seat
             self.new.woken.list result }
     {

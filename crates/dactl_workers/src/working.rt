@@ -1,8 +1,9 @@
 //! How a worker works.
 
 ghost use Rattle.std.specs.Prelude.{◌≡◌, IsTrue};
+ghost use Rattle.dactl_shared.specs.Endings.{HasSeenEnd};
 ghost use Rattle.dactl_shared.specs.Stores.{program_of};
-ghost use Rattle.dactl_workers.specs.Work.{IsReady, HasWorked, HasSeenEnd};
+ghost use Rattle.dactl_workers.specs.Work.{IsReady, HasWorked};
 ghost use Rattle.dactl_workers.specs.Turns.{IsSeated, IsCounted, HasFootprint, HasGone};
 
 use crate::gate::Gate;

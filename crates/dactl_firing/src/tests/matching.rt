@@ -56,7 +56,8 @@ fn holds(store: &Store, bound: &[NodeId], pattern: &Pat, node: NodeId) -> bool
 fn both_hold(store: &Store, bound: &[NodeId], patterns: &[Pat], node: NodeId) -> bool
     requires valid { IsValid store.now }
     requires node { HasNode store.now.graph node }
-    ensures { IsTrue result → IsSomeAnd (node_at store.now.graph node) (λ n. IsTrue (all_hold (map (sat store.now.graph bound.now) patterns.now) n.arcs)) }
+    ensures { let tests = map (sat store.now.graph bound.now) patterns.now in
+        IsTrue result → IsSomeAnd (node_at store.now.graph node) (λ n. IsTrue (all_hold tests n.arcs)) }
 {
     if patterns.len() != 2 || store.arity(node) != 2 {
         return false;

@@ -1,6 +1,6 @@
 use Rattle.std.proofs.Common.{inr, sym, subst}
 use Rattle.dactl_workers.specs.Turns.{IsKnownWith}
-use Rattle.dactl_workers.proofs.Looks.{contained, known_step, known_same}
+use Rattle.dactl_workers.proofs.Known.{contained, known_step, known_same}
 use Rattle.dactl_workers.proofs.knowing.known_with_last.Goals as goal
 
 pub returns-in-Some : goal.returns-in-Some

@@ -2,7 +2,7 @@ use Rattle.std.proofs.Common.{sym, subst}
 use Rattle.std.proofs.lemmas.List.Elements.{Contains-get_or}
 use Rattle.dactl_model.specs.Readings.{targets_of}
 use Rattle.dactl_workers.specs.Turns.{IsKnownWith}
-use Rattle.dactl_workers.proofs.Looks.{known_step}
+use Rattle.dactl_workers.proofs.Known.{known_step}
 use Rattle.dactl_workers.proofs.knowing.known_with_targets.Goals as goal
 
 pub loop-node-preserved : goal.loop-node-preserved

@@ -1,20 +1,19 @@
 use Rattle.std.proofs.Common.{◌≡◌, ◌-◌, All, length}
-use Rattle.dactl_model.specs.Versions.{IsShown}
-use Rattle.dactl_shared.specs.Stores.{seen_of, program_of, SameCounts}
-use Rattle.dactl_workers.specs.Turns.{AreNodesAfter, HasLooked, IsReadSince, HasTargetsAfter}
+use Rattle.dactl_shared.specs.Stores.{seen_of, program_of, SameCounts, WasShown}
+use Rattle.dactl_workers.specs.Turns.{MayReadBelow, MayReadTargets, HasLooked, IsReadSince}
 use Rattle.dactl_workers.proofs.probing.gather.Given as goal
 
 abbrev pub invariant-loop-node : goal.invariant-loop-node
 invariant-loop-node g l = record {
   looked : HasLooked l.store l.initial.seat l.seat;
   counts : SameCounts l.initial.seat l.seat;
-  known : AreNodesAfter (program_of l.store) (seen_of l.seat) l.known;
+  known : MayReadBelow l.store l.seat l.known;
   decisions : l.probe.decisions ≡ l.initial.probe.decisions;
   node : l.probe.node ≡ l.initial.probe.node;
   room : l.probe.room ≡ l.initial.probe.room;
-  shown : All (IsShown (program_of l.store) (seen_of l.seat)) l.probe.readings;
+  shown : All (WasShown l.store l.seat) l.probe.readings;
   since : All (IsReadSince (program_of l.store) (seen_of l.initial.seat) (seen_of l.seat)) l.probe.readings;
-  targets : All (HasTargetsAfter (program_of l.store) (seen_of l.seat)) l.probe.readings;
+  targets : All (MayReadTargets l.store l.seat) l.probe.readings;
 }
 
 abbrev pub decreases-loop-node : goal.decreases-loop-node

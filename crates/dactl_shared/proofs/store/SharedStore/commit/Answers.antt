@@ -11,7 +11,7 @@ use Rattle.dactl_shared.proofs.Nodes.{woken_known}
 use Rattle.dactl_shared.proofs.Turns.{stands_on, shown_on, mine_grows}
 use Rattle.dactl_shared.proofs.store.SharedStore.commit.Goals as goal
 use Rattle.dactl_model.specs.Versions.{IsShown}
-use Rattle.dactl_state.specs.Runs.{Run, IsCourse, Commits}
+use Rattle.dactl_state.specs.Runs.{Run, IsCourse, Commits, TellsRest}
 
 pub commit-answer-requires-clause-shown : goal.commit-answer-requires-clause-shown
 commit-answer-requires-clause-shown g c = let t = c.take-held.ensures in let d : c.deref_mut.result.now ≡ c.take-held.result.state.value = search rules in let rs = c.args.attempt.now.footprint.readings in
@@ -38,6 +38,7 @@ returns-clause-step g c = let t = c.take-held.ensures in let r = c.take-held.res
       after = after;
       stands = stands_on p l gs (gives_of c.give.new.seat) r next event c.args.attempt.now.footprint.readings w c.commit-answer.new.woken.list a at s.course.1 after done;
       commits = done;
+      rest = subst (λ (z : Run). TellsRest z a) d s.rest;
     }
 
 pub returns-clause-mine : goal.returns-clause-mine

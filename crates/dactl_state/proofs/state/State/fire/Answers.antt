@@ -1,4 +1,4 @@
-use Rattle.std.proofs.Common.{rules, ◌≡◌, ℕ, ◌+◌, [], ◌∷◌, ◌++◌, None, Some, sym, ap, subst, length}
+use Rattle.std.proofs.Common.{rules, ◌≡◌, ℕ, ◌+◌, [], ◌∷◌, ◌++◌, None, sym, ap, subst, length}
 use Rattle.dactl_model.specs.declared.graph.Event.TheVariants.{Fire}
 use Rattle.dactl_model.specs.Ending.{IsFull}
 use Rattle.dactl_model.specs.Steps.{MayHappen}

@@ -1,4 +1,4 @@
-use Rattle.std.proofs.Common.{[], List, All, MatchOption, Option, None, refl, sym, subst}
+use Rattle.std.proofs.Common.{[], List, All, MatchOption, Option, refl, sym, subst}
 use Rattle.dactl_model.specs.declared.reading.Reading.{Reading}
 use Rattle.dactl_model.specs.Graphs.{HasNode}
 use Rattle.dactl_model.specs.Versions.{IsShown}

@@ -1,4 +1,4 @@
-use Rattle.std.proofs.Common.{◌<◌, length, Some, ap, sym, subst, ◌∙◌}
+use Rattle.std.proofs.Common.{Some, ap, sym, subst, ◌∙◌}
 use Rattle.dactl_store.specs.Held.{IsValid, IsVersionAt}
 use Rattle.dactl_store.specs.Layout.{version_of}
 use Rattle.dactl_store.proofs.Seen.{below_seen, span_within, version_seen, valid}

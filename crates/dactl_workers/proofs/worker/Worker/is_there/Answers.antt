@@ -1,21 +1,20 @@
-use Rattle.std.proofs.Common.{sym, ◌∙◌, subst, arith}
-use Rattle.dactl_shared.specs.Stores.{seen_of, program_of}
-use Rattle.dactl_workers.specs.Turns.{AreNodesAfter}
-use Rattle.dactl_workers.proofs.Looks.{looked, counted_nodes, counted_all, by_test}
+use Rattle.std.proofs.Common.{◌<◌, ◌≤◌, sym, ◌∙◌, subst, arith}
+use Rattle.dactl_workers.specs.Turns.{MayReadBelow}
+use Rattle.dactl_workers.proofs.Looks.{looked, counted_all, by_test}
 use Rattle.dactl_workers.proofs.worker.Worker.is_there.Goals as goal
 
 pub returns-clause-seated : goal.returns-clause-seated
-returns-clause-seated g c = let e = c.count-count.ensures in let r = c.requires.seated in let s = c.args.store.now in let new = c.count-count.new.seat in record {
+returns-clause-seated g c = let e = c.count-count.ensures in let r = c.requires.seated in record {
   own = e.own.0;
   woken = r.woken;
-  known = subst (AreNodesAfter (program_of s) (seen_of new)) (sym c.from-self.ensures) (counted_nodes s c.args.self.now.seat new c.count-count.result e.count);
+  known = subst (MayReadBelow c.args.store.now c.count-count.new.seat) (sym c.from-self.ensures) e.known;
   worker = r.worker ∙ sym e.own.1;
 }
 
 pub returns-clause-looked : goal.returns-clause-looked
-returns-clause-looked g c = let e = c.count-count.ensures in looked c.args.store.now c.args.self.now.seat c.count-count.new.seat e.count e.own.0 e.own.1 e.mine
+returns-clause-looked g c = let e = c.count-count.ensures in looked c.args.store.now c.args.self.now.seat c.count-count.new.seat _ e.count e.own.0 e.own.1 e.mine
 
 pub returns-clause-there : goal.returns-clause-there
-returns-clause-there g c = let e = c.count-count.ensures in let s = c.args.store.now in let n = c.args.node in
-    by_test n.number c.count-count.result _ _ (λ lt. counted_nodes s c.args.self.now.seat c.count-count.new.seat c.count-count.result e.count n lt)
-    (λ le there. let below = counted_all s c.args.self.now.seat c.count-count.new.seat c.count-count.result n e.count there in absurd (omega arith))
+returns-clause-there g c = let e = c.count-count.ensures in let n = c.args.node in
+    by_test n.number c.count-count.result _ _ (λ lt. e.known n lt)
+    (λ le there. let below = counted_all c.args.store.now c.args.self.now.seat c.count-count.new.seat c.count-count.result n e.count there in absurd (omega arith))

@@ -1,21 +1,20 @@
-use Rattle.std.proofs.Common.{◌≤◌, ℕ, ap, sym, ◌∙◌, subst}
+use Rattle.std.proofs.Common.{◌≡◌, ◌≤◌, ℕ, ap, sym, ◌∙◌, subst}
 use Rattle.dactl_shared.specs.Stores.{limits_of}
+use Rattle.dactl_shared.proofs.Later.{step_known}
 use Rattle.dactl_probe.specs.Probing.{Probing}
-use Rattle.dactl_workers.proofs.Tried.{Tried, nodes_tried, tells}
+use Rattle.dactl_workers.proofs.Tried.{tells}
 use Rattle.dactl_workers.proofs.worker.Worker.try_node.Goals as goal
 
 pub returns-clause-seated : goal.returns-clause-seated
-returns-clause-seated g c = let r = c.requires.seated in let a = c.gather-attempt.ensures in let e = c.commit-answer.ensures in let attempt = c.gather-attempt.result in
-    let t : Tried c.args.store.now c.args.self.now.seat c.gather-attempt.new.seat c.commit-answer.new.seat attempt.event attempt.footprint.readings c.commit-answer.result c.commit-answer.new.woken.list
-    = record { looked = a.looked; counts = a.counts; own = e.own.0; number = e.own.1; step = e.step; mine = e.mine; stale = e.stale; passive = e.passive; since = a.since } in record {
-      own = e.own.0;
-      woken = subst (λ (n : ℕ). (limits_of c.args.store.now).nodes ≤ n) (sym e.room) r.woken;
-      known = λ n lt. nodes_tried c.args.store.now c.args.self.now.seat c.gather-attempt.new.seat c.commit-answer.new.seat attempt.event attempt.footprint.readings c.commit-answer.new.woken.list c.commit-answer.result t n (a.known n lt);
-      worker = r.worker ∙ sym (e.own.1 ∙ a.looked.number);
-    }
+returns-clause-seated g c = let r = c.requires.seated in let a = c.gather-attempt.ensures in let e = c.commit-answer.ensures in let attempt = c.gather-attempt.result in record {
+  own = e.own.0;
+  woken = subst (λ (n : ℕ). (limits_of c.args.store.now).nodes ≤ n) (sym e.room) r.woken;
+  known = λ n lt. step_known c.args.store.now c.gather-attempt.new.seat c.commit-answer.new.seat attempt.event attempt.footprint.readings c.commit-answer.result c.commit-answer.new.woken.list n e.step (a.known n lt);
+  worker = r.worker ∙ sym (e.own.1 ∙ a.looked.number);
+}
 
 pub returns-clause-tells : goal.returns-clause-tells
 returns-clause-tells g c = let a = c.gather-attempt.ensures in let e = c.commit-answer.ensures in let attempt = c.gather-attempt.result in
     tells c.args.store.now c.args.self.now.seat c.gather-attempt.new.seat c.commit-answer.new.seat attempt.event attempt.footprint.readings c.commit-answer.new.woken.list c.args.node c.commit-answer.result
     (a.node ∙ ap (λ (p : Probing). p.node) c.start-probe.ensures.begun)
-    (record { looked = a.looked; counts = a.counts; own = e.own.0; number = e.own.1; step = e.step; mine = e.mine; stale = e.stale; passive = e.passive; since = a.since })
+    (record { looked = a.looked; counts = a.counts; own = e.own.0; number = e.own.1; step = e.step; mine = e.mine; stale = e.stale; passive = e.passive; ended = e.ended; since = a.since })
