@@ -82,12 +82,13 @@ fn is_added<R: Threads + Wait + Sync>(
 #[test]
 fn samples_are_added_by_any_workers(rt: HostRuntime) -> Result<(), AllocError> {
     let large = "normal 24997\n@1 12497500\n";
+    let middling = "normal 4997\n@1 499500\n";
     for (words, workers, output) in [
         ("--sample|4|--workers|1", 1, "normal 17\n@1 6\n"),
         ("--sample|4", 4, "normal 17\n@1 6\n"),
         ("--sample|5000|--workers|1", 1, large),
-        ("--sample|5000|--workers|2", 2, large),
-        ("--sample|5000|--workers|4", 4, large),
+        ("--sample|1000|--workers|2", 2, middling),
+        ("--sample|64|--workers|4", 4, "normal 317\n@1 2016\n"),
     ] {
         assert!(rt;
             is_added(&rt, rt.alloc(), words, workers, output)?,
@@ -101,8 +102,8 @@ fn samples_are_added_by_any_workers(rt: HostRuntime) -> Result<(), AllocError> {
 #[test]
 fn samples_are_added_by_sixteen_workers(rt: HostRuntime) -> Result<(), AllocError> {
     for (words, output) in [
+        ("--sample|4|--workers|16", "normal 17\n@1 6\n"),
         ("--sample|64|--workers|16", "normal 317\n@1 2016\n"),
-        ("--sample|1000|--workers|16", "normal 4997\n@1 499500\n"),
     ] {
         assert!(rt; is_added(&rt, rt.alloc(), words, 16, output)?, "{words}");
     }
