@@ -1,5 +1,7 @@
 """Reads printed graphs for tools/picture and tools/film, and writes them for Graphviz."""
 import re
+import shutil
+import subprocess
 
 LINE = re.compile(r"^@(\d+) (\*|#*)([A-Za-z0-9_-]+)(?:\[([^\]]*)\])?$")
 
@@ -34,3 +36,20 @@ def dot_of(nodes, title):
             style = ' color=red fontcolor=red style=dashed' if waits else ""
             yield f'  n{number} -> n{target} [label="{text}"{style}];'
     yield "}"
+
+
+class NoDot(Exception):
+    """Graphviz's `dot` is not installed."""
+    def __str__(self):
+        return "`dot` is not installed (package graphviz)"
+
+
+def svgs_of(graphs):
+    """An SVG for each graph of nodes with its title, all drawn by one run of `dot`."""
+    dot = shutil.which("dot")
+    if not dot:
+        raise NoDot
+    text = "\n".join("\n".join(dot_of(nodes, title)) for nodes, title in graphs)
+    drawn = subprocess.run([dot, "-Tsvg"], input=text.encode(), capture_output=True, check=True).stdout.decode()
+    drawn = re.sub(r"<!--.*?-->\n|<title>.*?</title>\n", "", drawn, flags=re.DOTALL)
+    return re.findall(r"<svg.*?</svg>", drawn, re.DOTALL)
