@@ -2,10 +2,10 @@ ghost use Rattle.std.specs.Prelude.{◌≡◌, ◌<◌, ◌^◌, IfOk, IfSome, l
 ghost use Rattle.dactl_model.specs.Graphs.{HasNode, IsWellFormed};
 ghost use Rattle.dactl_model.specs.Programs.{IsValid};
 
-use crate::{Choice, allowed, choose, fire, matches, note, start_graph};
+use crate::{Choice, allowed, choose, fire, matches, note, replay, start_graph};
 use dactl_model::Memory;
 use dactl_model::arithmetic::arithmetic_rule;
-use dactl_model::graph::{Graph, Label, Mark, NodeId};
+use dactl_model::graph::{Entry, Event, Graph, Label, Mark, NodeId};
 use dactl_model::program::{
     Body, Class, FreshArc, FreshNode, Left, Mention, Move, Op, Pat, Program, Rule, Start, Symbol,
 };
@@ -306,5 +306,70 @@ fn both_rests_at_first(rt: HostRuntime) -> Result<(), Fail> {
     let (first, second) = first_choices(rt.alloc(), &program)?.ok_or("small")?;
     assert!(rt; matches!(first, Choice::Resting));
     assert!(rt; matches!(second, Choice::Note));
+    Ok(())
+}
+
+fn noted(number: u32) -> Entry {
+    let node = NodeId { number };
+    Entry {
+        worker: 1,
+        event: Event::Note { node },
+    }
+}
+
+fn fired(number: u32, rule: u32) -> Entry {
+    let node = NodeId { number };
+    Entry {
+        worker: 2,
+        event: Event::Fire { node, rule },
+    }
+}
+
+/// Whether the journal leads from the start of `##Both[^*A ^*A]` to a graph of so many nodes.
+fn leads_to(alloc: Global, journal: &[Entry], nodes: usize) -> Result<bool, Memory> {
+    let program = both(alloc, [1, 2])?;
+    if !is_valid(&program) {
+        return Ok(false);
+    }
+    match replay(alloc, &program, journal)? {
+        Some(graph) => Ok(graph.nodes.len() == nodes),
+        None => Ok(false),
+    }
+}
+
+#[test]
+fn journals_are_replayed(rt: HostRuntime) -> Result<(), Fail> {
+    let journal = [noted(1), noted(2), fired(0, 5), noted(3)];
+    for (entries, nodes) in [(0, 3), (1, 3), (2, 3), (3, 4), (4, 4)] {
+        assert!(rt; leads_to(rt.alloc(), &journal[..entries], nodes)?);
+    }
+    Ok(())
+}
+
+/// Whether there is no such journal from the start of `##Both[^*A ^*A]`.
+fn leads_nowhere(alloc: Global, journal: &[Entry]) -> Result<bool, Memory> {
+    let program = both(alloc, [1, 2])?;
+    if !is_valid(&program) {
+        return Ok(false);
+    }
+    Ok(replay(alloc, &program, journal)?.is_none())
+}
+
+#[test]
+fn a_journal_with_an_entry_out_of_place_is_none(rt: HostRuntime) -> Result<(), Fail> {
+    let waiting = [noted(2), fired(0, 5)];
+    let again = [noted(1), noted(1)];
+    let other_rule = [noted(1), noted(2), fired(0, 0)];
+    assert!(rt; leads_nowhere(rt.alloc(), &waiting)?);
+    assert!(rt; leads_nowhere(rt.alloc(), &again)?);
+    assert!(rt; leads_nowhere(rt.alloc(), &other_rule)?);
+    Ok(())
+}
+
+#[test]
+fn a_journal_of_no_node_or_no_rule_is_none(rt: HostRuntime) -> Result<(), Fail> {
+    assert!(rt; leads_nowhere(rt.alloc(), &[noted(9)])?);
+    assert!(rt; leads_nowhere(rt.alloc(), &[fired(9, 5)])?);
+    assert!(rt; leads_nowhere(rt.alloc(), &[noted(1), noted(2), fired(0, 9)])?);
     Ok(())
 }

@@ -26,7 +26,7 @@ impl Model for Page {
 
     ghost view = { λ p. take p.len p.bytes.items };
 
-    ghost invariant = { λ p. (p.len ≤ length p.bytes.items) × (0 < length p.bytes.items) };
+    ghost invariant = { λ p. (p.len ≤ length p.bytes.items) × (length p.bytes.items ≡ 65536) };
 }
 
 impl Page {
@@ -43,7 +43,7 @@ impl Page {
     fn take_front(&mut self, bytes: &[u8]) -> usize
         ensures within { result ≤ length bytes.now }
         ensures taken { self.new ≡ self.old ++ take result bytes.now }
-        ensures some { result < length bytes.now → 0 < length self.new }
+        ensures full { result < length bytes.now → length self.new ≡ 65536 }
     {
         let count = (self.bytes.len() - self.len).min(bytes.len());
         self.bytes[self.len..self.len + count].copy_from_slice(&bytes[..count]);
@@ -61,6 +61,15 @@ impl Page {
         handed
     }
 
+    // Hands on a page that is full.
+    fn hand_on_full<K: Sink>(&mut self, sink: &mut K) -> Result<(), Failed>
+        requires full { length self.old ≡ 65536 }
+        ensures prints { Prints (K.holds sink.old) (K.holds sink.new) (K.faults sink.old) (K.faults sink.new) self.old self.new result [] }
+        ensures empty { self.new ≡ [] }
+    {
+        self.hand_on(sink)
+    }
+
     /// Gathers the bytes, and hands on each full page.
     pub fn gather<K: Sink>(&mut self, sink: &mut K, bytes: &[u8]) -> Result<(), Failed>
         ensures { Prints (K.holds sink.old) (K.holds sink.new) (K.faults sink.old) (K.faults sink.new) self.old self.new result bytes.now }
@@ -72,7 +81,7 @@ impl Page {
             if rest.is_empty() {
                 return Ok(());
             }
-            self.hand_on(sink)?;
+            self.hand_on_full(sink)?;
         }
     }
 
