@@ -1,4 +1,4 @@
-//! Large samples, by few workers and by many.
+//! Large samples, by one worker and by many.
 
 use crate::calling::called;
 use dactl_workers::OpenGate;
@@ -17,23 +17,17 @@ fn writes<R: Threads + Wait + Sync>(
     Ok(answered.status.code() == 0 && answered.sink.held() == output)
 }
 
-const OF_5000: &[u8] = b"normal 24997\n@1 12497500\n";
-
+// However many workers there are, the sum is the same.
 #[test]
-fn two_workers_add_5000_leaves(rt: HostRuntime) -> Result<(), AllocError> {
-    assert!(rt; writes(&rt, rt.alloc(), "--sample 5000 --workers 2", OF_5000)?);
-    Ok(())
-}
-
-#[test]
-fn four_workers_add_5000_leaves(rt: HostRuntime) -> Result<(), AllocError> {
-    assert!(rt; writes(&rt, rt.alloc(), "--sample 5000 --workers 4", OF_5000)?);
-    Ok(())
-}
-
-#[test]
-fn sixteen_workers_add_5000_leaves(rt: HostRuntime) -> Result<(), AllocError> {
-    assert!(rt; writes(&rt, rt.alloc(), "--sample 5000 --workers 16", OF_5000)?);
+fn several_workers_add_5000_leaves(rt: HostRuntime) -> Result<(), AllocError> {
+    for words in [
+        "--sample 5000 --workers 2",
+        "--sample 5000 --workers 4",
+        "--sample 5000 --workers 16",
+    ] {
+        let output = b"normal 24997\n@1 12497500\n";
+        assert!(rt; writes(&rt, rt.alloc(), words, output)?, "{words}");
+    }
     Ok(())
 }
 
