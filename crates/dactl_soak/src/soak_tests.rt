@@ -68,7 +68,7 @@ fn turn_cells<R: Threads + Wait + Sync, G: Gate + Sync>(
 
 #[test]
 fn sixteen_workers_turn_two_cells(rt: HostRuntime) -> Result<(), AllocError> {
-    for run in 0..500 {
+    for run in 0..750 {
         assert!(rt; turn_cells(&rt, rt.alloc(), &OpenGate)?, "run {run}");
     }
     Ok(())
@@ -77,7 +77,7 @@ fn sixteen_workers_turn_two_cells(rt: HostRuntime) -> Result<(), AllocError> {
 // No commit comes before each of the sixteen is about to make one.
 #[test]
 fn sixteen_workers_that_meet_turn_two_cells(rt: HostRuntime) -> Result<(), AllocError> {
-    for run in 0..500 {
+    for run in 0..250 {
         let gate = Meeting::new(16);
         assert!(rt;
             turn_cells(&rt, rt.alloc(), &gate)? && gate.took_place(),
