@@ -3,11 +3,13 @@ ghost use Rattle.std.specs.Prelude.{◌≡◌, ◌<◌, ℕ, IfOk, Some, length,
 ghost use Rattle.dactl_model.specs.Programs.{IsValid};
 ghost use Rattle.dactl_decide.specs.Decisions.{AreDecisions, IsWidest, AreRulesOf};
 ghost use Rattle.dactl_decide.specs.Gathering.{AreTreesBelow, AreListsBelow};
+ghost use Rattle.dactl_decide.specs.Orders.{is_orderly};
 ghost use Rattle.dactl_decide.specs.PathTrees.{size};
 
 use crate::Memory;
+use crate::order::is_orderly;
 use crate::path_tree::{PathTree, add, count};
-use dactl_model::program::Program;
+use dactl_model::program::{Program, Rule};
 use std::alloc::{AllocError, Global};
 use std::marker::Model;
 
@@ -17,12 +19,13 @@ use std::marker::Model;
 pub struct Deciders {
     program: Program,
     rules: Vec<Vec<u32>>,
+    orderly: Vec<bool>,
     paths: Vec<u32>,
     widest: u32,
 }
 
 impl Model for Deciders {
-    ghost use Rattle.std.specs.Prelude.{length};
+    ghost use Rattle.std.specs.Prelude.{◌≡◌, length, map};
     ghost use Rattle.std.specs.Coded.{codes};
     ghost use Rattle.dactl_model.specs.contracts.program.Pat as pat;
     ghost use Rattle.dactl_decide.specs.Decisions.{Decisions, AreDecisions};
@@ -32,10 +35,11 @@ impl Model for Deciders {
     ghost coded = { Prim.hlevel (codes, pat.the_row.coded) };
 
     ghost use Rattle.dactl_decide.specs.Gathering.{AreListsBelow};
+    ghost use Rattle.dactl_decide.specs.Orders.{is_orderly};
 
     ghost view = { λ d. record { program = d.program; paths = d.paths.items; widest = d.widest } };
 
-    ghost invariant = { λ d. AreDecisions (record { program = d.program; paths = d.paths.items; widest = d.widest }) × AreListsBelow d.program.rules (length d.program.symbols) (length d.program.rules) d.rules.items };
+    ghost invariant = { λ d. AreDecisions (record { program = d.program; paths = d.paths.items; widest = d.widest }) × AreListsBelow d.program.rules (length d.program.symbols) (length d.program.rules) d.rules.items × (d.orderly.items ≡ map is_orderly d.program.rules) };
 }
 
 /// A tree for each symbol, with the root's path alone.
@@ -84,6 +88,17 @@ fn rules_by_symbol(alloc: Global, program: &Program) -> Result<Vec<Vec<u32>>, Me
     Ok(lists)
 }
 
+/// Which of the rules are orderly.
+fn orders(alloc: Global, rules: &[Rule]) -> Result<Vec<bool>, Memory>
+    ensures { IfOk result (λ orderly. orderly.items ≡ map is_orderly rules.now) }
+{
+    let mut orderly = Vec::new(alloc);
+    for rule in rules {
+        orderly.push(is_orderly(rule))?;
+    }
+    Ok(orderly)
+}
+
 /// How many paths each tree has.
 fn counts(alloc: Global, trees: &[PathTree]) -> Result<Vec<u32>, Memory>
     ensures { IfOk result (λ paths. paths.items ≡ map size trees.now) }
@@ -119,10 +134,12 @@ pub fn compile(alloc: Global, program: &Program) -> Result<Deciders, Memory>
     let paths = counts(alloc, trees.as_slice())?;
     let widest = greatest(paths.as_slice());
     let rules = rules_by_symbol(alloc, program)?;
+    let orderly = orders(alloc, program.rules.as_slice())?;
     let program = program.copy(alloc)?;
     Ok(Deciders {
         program,
         rules,
+        orderly,
         paths,
         widest,
     })
@@ -145,6 +162,15 @@ impl Deciders {
             Some(rules) => rules.as_slice(),
             None => &[],
         }
+    }
+
+    /// Whether each variable of the rule has one binder, and these stand in the order of their
+    /// numbers: so that no two of them can stand for one variable at different nodes.
+    pub fn is_orderly(&self, rule: u32) -> bool
+        requires { rule < length self.now.program.rules }
+        ensures { slice_get (map is_orderly self.now.program.rules) rule ≡ Some result }
+    {
+        self.orderly[rule as usize]
     }
 
     /// The most nodes that a probe reads at a node with this symbol of the program.

@@ -5,6 +5,7 @@
 use std::alloc::AllocError;
 
 mod compiling;
+mod order;
 mod path_tree;
 
 pub use compiling::{Deciders, compile};

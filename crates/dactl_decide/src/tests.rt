@@ -108,6 +108,14 @@ fn paths(deciders: &Deciders, symbol: u32) -> Option<u32> {
     Some(deciders.paths(symbol))
 }
 
+/// Whether the rule of the number is orderly, if there is one.
+fn is_orderly(deciders: &Deciders, rule: u32) -> Option<bool> {
+    if rule as usize >= deciders.program().rules.len() {
+        return None;
+    }
+    Some(deciders.is_orderly(rule))
+}
+
 /// `Get` tests itself, its box and the cell in it; `Put` itself and its cell; `Cell`, without
 /// rules, counts its root alone; and `IAdd` tests itself and both integers.
 #[test]
@@ -121,5 +129,6 @@ fn the_paths_of_each_symbol_are_counted(rt: HostRuntime) -> Result<(), Fail> {
     assert_eq!(rt; deciders.widest(), 3);
     assert_eq!(rt; deciders.rules(8), [6].as_slice());
     assert!(rt; deciders.rules(9).is_empty());
+    assert_eq!(rt; is_orderly(&deciders, 6), Some(true));
     Ok(())
 }

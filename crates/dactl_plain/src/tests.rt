@@ -309,7 +309,7 @@ fn both_rests_at_first(rt: HostRuntime) -> Result<(), Fail> {
     Ok(())
 }
 
-fn noted(number: u32) -> Entry {
+fn noting(number: u32) -> Entry {
     let node = NodeId { number };
     Entry {
         worker: 1,
@@ -317,7 +317,7 @@ fn noted(number: u32) -> Entry {
     }
 }
 
-fn fired(number: u32, rule: u32) -> Entry {
+fn firing(number: u32, rule: u32) -> Entry {
     let node = NodeId { number };
     Entry {
         worker: 2,
@@ -339,7 +339,7 @@ fn leads_to(alloc: Global, journal: &[Entry], nodes: usize) -> Result<bool, Memo
 
 #[test]
 fn journals_are_replayed(rt: HostRuntime) -> Result<(), Fail> {
-    let journal = [noted(1), noted(2), fired(0, 5), noted(3)];
+    let journal = [noting(1), noting(2), firing(0, 5), noting(3)];
     for (entries, nodes) in [(0, 3), (1, 3), (2, 3), (3, 4), (4, 4)] {
         assert!(rt; leads_to(rt.alloc(), &journal[..entries], nodes)?);
     }
@@ -357,9 +357,9 @@ fn leads_nowhere(alloc: Global, journal: &[Entry]) -> Result<bool, Memory> {
 
 #[test]
 fn a_journal_with_an_entry_out_of_place_is_none(rt: HostRuntime) -> Result<(), Fail> {
-    let waiting = [noted(2), fired(0, 5)];
-    let again = [noted(1), noted(1)];
-    let other_rule = [noted(1), noted(2), fired(0, 0)];
+    let waiting = [noting(2), firing(0, 5)];
+    let again = [noting(1), noting(1)];
+    let other_rule = [noting(1), noting(2), firing(0, 0)];
     assert!(rt; leads_nowhere(rt.alloc(), &waiting)?);
     assert!(rt; leads_nowhere(rt.alloc(), &again)?);
     assert!(rt; leads_nowhere(rt.alloc(), &other_rule)?);
@@ -368,8 +368,8 @@ fn a_journal_with_an_entry_out_of_place_is_none(rt: HostRuntime) -> Result<(), F
 
 #[test]
 fn a_journal_of_no_node_or_no_rule_is_none(rt: HostRuntime) -> Result<(), Fail> {
-    assert!(rt; leads_nowhere(rt.alloc(), &[noted(9)])?);
-    assert!(rt; leads_nowhere(rt.alloc(), &[fired(9, 5)])?);
-    assert!(rt; leads_nowhere(rt.alloc(), &[noted(1), noted(2), fired(0, 9)])?);
+    assert!(rt; leads_nowhere(rt.alloc(), &[noting(9)])?);
+    assert!(rt; leads_nowhere(rt.alloc(), &[firing(9, 5)])?);
+    assert!(rt; leads_nowhere(rt.alloc(), &[noting(1), noting(2), firing(0, 9)])?);
     Ok(())
 }

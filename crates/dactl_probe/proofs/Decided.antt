@@ -30,8 +30,8 @@ use Rattle.dactl_decide.specs.Paths.{is_root, tests}
 use Rattle.dactl_decide.specs.Decisions.{AreRulesOf}
 use Rattle.dactl_decide.proofs.Gathered.{has_root, root_of}
 use Rattle.dactl_probe.specs.Leading.{Needs}
-use Rattle.dactl_probe.specs.Verdicts.{HasRule, AreNo, IsYesInGroup, HasSymbolRead, label_tests, IsPlaced, IsUndecided, IsNeed}
-use Rattle.dactl_probe.proofs.Rules.{no_yes, unknown_no}
+use Rattle.dactl_probe.specs.Verdicts.{HasRule, AreNo, IsYesInGroup, IsYesBeside, IsFirstWaiting, HasSymbolRead, label_tests, IsPlaced, IsUndecided, IsNeed}
+use Rattle.dactl_probe.proofs.Rules.{no_yes, unknown_no, unknown_yes}
 
 -- the rule of the number is No
 abbrev pub IsNumberNo : List Rule → List Reading → NodeId → ℕ → Type 0
@@ -72,6 +72,14 @@ module _ (rules : List Rule) (f : ℕ) (rs : List Reading) (n : NodeId) (numbers
   pub open_rule : (i d : ℕ) (rule : Rule) (P : Rule → Type 0) → i < length numbers → slice_get rules (get_or numbers i d) ≡ Some rule → P rule → HasRule rules f (get_or numbers i d) P
   open_rule i d rule P inside is holds = subst (λ o. IsSomeAnd o (λ x. (x.symbol ≡ f) × P x)) (sym is) (root_of rules f (get_or numbers i d) rule is (are.each i d inside).1, holds)
 
+  -- the same where the fact holds of whatever rule has the number
+  pub open_number : (i d : ℕ) (P : Rule → Type 0) → i < length numbers → ((rule : Rule) → slice_get rules (get_or numbers i d) ≡ Some rule → P rule) → HasRule rules f (get_or numbers i d) P
+  open_number i d P inside holds = at (slice_get rules (get_or numbers i d)) refl (are.each i d inside).1
+    where
+      at : (o : Option Rule) → slice_get rules (get_or numbers i d) ≡ o → IsSomeAnd o (λ x. x.symbol ≡ f) → IsSomeAnd o (λ x. (x.symbol ≡ f) × P x)
+      at None is none = none
+      at (Some rule) is symbol = (symbol, holds rule is)
+
 pub same_rule : (rules : List Rule) (r : ℕ) (a b : Rule) → slice_get rules r ≡ Some a → slice_get rules r ≡ Some b → a ≡ b
 same_rule rules r a b is also = let e : Some a ≡ Some b = sym is ∙ also in cc
 
@@ -103,6 +111,25 @@ pub not_yes_here : (rules : List Rule) (group : ℕ) (rs : List Reading) (n : No
 not_yes_here rules group rs n s rule is not_both other also same holds =
     let e : other ≡ rule = same_rule rules s other rule also is in
     not_both (ap (λ x. x.group) (sym e) ∙ same, subst (IsRuleYes rs n) e holds)
+
+module _ (rules : List Rule) (f : ℕ) (rs : List Reading) (n : NodeId) (numbers : List ℕ) (are : AreRulesOf rules f numbers) where
+  -- up to the first open rule none is Yes
+  pub not_yes_until : (group first i d : ℕ) → IsFirstWaiting rules f rs n first → i < length numbers → get_or numbers i d ≤ first → IsNotYes rules group rs n (get_or numbers i d)
+  not_yes_until group first i d waiting inside until rule is same holds =
+      let symbol = root_of rules f (get_or numbers i d) rule is (are.each i d inside).1 in
+      elim (cases_lt (get_or numbers i d) first) [
+        | inl before_it ↦ no_yes rs n rule (waiting.0 (get_or numbers i d) rule before_it is symbol) holds
+        | inr not_before ↦ (
+            let at : get_or numbers i d ≡ first = omega (arith, until, not_before) in
+            let parts = rule_parts rules f first (λ x. IsRuleUnknown rs n x) waiting.1 in
+            let one = same_rule rules first parts.rule rule parts.is (ap (slice_get rules) (sym at) ∙ is) in
+            unknown_yes rs n rule (subst (IsRuleUnknown rs n) one parts.holds) holds)
+      ]
+
+  -- where none of its group is Yes, none beside the first rule is
+  pub none_beside : (first : ℕ) (rule : Rule) → slice_get rules first ≡ Some rule → All (IsNotYes rules rule.group rs n) numbers → IsYesBeside rules f first rs n None
+  none_beside first rule is all other is_other =
+      subst (λ x. IsYesInGroup rules f x.group rs n None) (same_rule rules first rule other is is_other) (all_not_yes rules f rule.group rs n numbers are all)
 
 -- a rule whose head is another symbol is No
 module _ (rs : List Reading) (n : NodeId) (r : Reading) (read : reading_of rs n ≡ Some r) where
@@ -173,7 +200,7 @@ module _ (p : Program) (valid : IsValid p) (rs : List Reading) (n : NodeId) wher
   symbol_or_no f has s rule is = elim (symbol_or_fails f has s rule is) [ inl symbol ↦ inl symbol | inr fails ↦ inr (inl fails) ]
 
   -- groups rise along the rules
-  rises : (s r : ℕ) (a b : Rule) → slice_get p.rules s ≡ Some a → slice_get p.rules r ≡ Some b → a.group < b.group → s < r
+  pub rises : (s r : ℕ) (a b : Rule) → slice_get p.rules s ≡ Some a → slice_get p.rules r ≡ Some b → a.group < b.group → s < r
   rises s r a b is_a is_b less =
       elim (cases_lt s r) [
         | inl before ↦ before
@@ -289,14 +316,14 @@ module _ (p : Program) (valid : IsValid p) (rs : List Reading) (n : NodeId) wher
       let parts = rule_parts p.rules f r (λ rule. IsRuleYes rs n rule) opened in
       fires f r r parts.rule parts.rule has parts.is parts.symbol parts.holds parts.is refl none
 
-  pub fires_other : (f r q : ℕ) (first : Rule) → HasSymbolRead rs n f → AreNo p.rules f rs n q → slice_get p.rules q ≡ Some first → HasRule p.rules f r (λ rule. (rule.group ≡ first.group) × IsRuleYes rs n rule) → (bindings : List NodeId) × ShowsFire p rs n r bindings
-  fires_other f r q first has none is_first other =
-      let parts = rule_parts p.rules f r (λ rule. (rule.group ≡ first.group) × IsRuleYes rs n rule) other in
-      fires f r q parts.rule first has parts.is parts.symbol parts.holds.1 is_first parts.holds.0 none
+  -- a rule of the group of the first open one
+  pub fires_beside : (f r q : ℕ) (m : NodeId) → HasSymbolRead rs n f → AreNo p.rules f rs n q → HasRule p.rules f q (λ rule. IsRuleUnknown rs n rule × Needs rs rule.pattern n m) → IsYesBeside p.rules f q rs n (Some r) → (bindings : List NodeId) × ShowsFire p rs n r bindings
+  fires_beside f r q m has none opened beside =
+      let first = rule_parts p.rules f q (λ rule. IsRuleUnknown rs n rule × Needs rs rule.pattern n m) opened in
+      let parts = rule_parts p.rules f r (λ rule. (rule.group ≡ first.rule.group) × IsRuleYes rs n rule) (beside first.rule first.is) in
+      fires f r q parts.rule first.rule has parts.is parts.symbol parts.holds.1 first.is parts.holds.0 none
 
-  pub needs_first : (f q : ℕ) (m : NodeId) (first : Rule) → HasSymbolRead rs n f → AreNo p.rules f rs n q → HasRule p.rules f q (λ rule. IsRuleUnknown rs n rule × Needs rs rule.pattern n m) → slice_get p.rules q ≡ Some first
-      → IsYesInGroup p.rules f first.group rs n None → IsNeed p rs n m
-  needs_first f q m first has none opened is_first no_yes_there =
+  pub needs_first : (f q : ℕ) (m : NodeId) → HasSymbolRead rs n f → AreNo p.rules f rs n q → HasRule p.rules f q (λ rule. IsRuleUnknown rs n rule × Needs rs rule.pattern n m) → IsYesBeside p.rules f q rs n None → IsNeed p rs n m
+  needs_first f q m has none opened beside =
       let parts = rule_parts p.rules f q (λ rule. IsRuleUnknown rs n rule × Needs rs rule.pattern n m) opened in
-      let same = same_rule p.rules q parts.rule first parts.is is_first in
-      needs_now f q parts.rule m has parts.is parts.symbol parts.holds.0 parts.holds.1 none (subst (λ x. IsYesInGroup p.rules f x.group rs n None) (sym same) no_yes_there)
+      needs_now f q parts.rule m has parts.is parts.symbol parts.holds.0 parts.holds.1 none (beside parts.rule parts.is)

@@ -6,3 +6,4 @@ pub mod Traced
 pub mod Further
 pub mod Passing
 pub mod Marking
+pub mod Ordering

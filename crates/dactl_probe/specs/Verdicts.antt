@@ -11,19 +11,25 @@ use Rattle.dactl_model.specs.Acts.{node_of_event}
 use Rattle.dactl_model.specs.Readings.{reading_of}
 use Rattle.dactl_model.specs.RuleTold.{IsRuleYes, IsRuleNo, IsRuleUnknown, ShowsFire, ShowsNote, ShowsEvent}
 use Rattle.dactl_decide.specs.Paths.{is_root, symbol_tests}
-use Rattle.dactl_probe.specs.declared.finding.Finding.{Finding}
-use Rattle.dactl_probe.specs.declared.finding.Finding.TheVariants.{No, Unknown, Yes}
+use Rattle.dactl_probe.specs.declared.rule.Found.{Found}
+use Rattle.dactl_probe.specs.declared.rule.Found.TheVariants.{Lost, No, Unknown, Yes}
 use Rattle.dactl_probe.specs.declared.verdict.Open.{Open}
 use Rattle.dactl_probe.specs.declared.verdict.Open.TheVariants.{Fires, Waits}
 use Rattle.dactl_probe.specs.declared.verdict.Verdict.{Verdict}
 use Rattle.dactl_probe.specs.declared.verdict.Verdict.TheVariants.{Need, Fire, Note}
 use Rattle.dactl_probe.specs.Leading.{Leads, Needs}
+use Rattle.dactl_probe.specs.Lost.{IsRuleLost}
 
 -- what was found of a rule at n
-abbrev pub IsRuleFinding : List Reading → NodeId → Rule → Finding → Type 0
-IsRuleFinding rs n rule No = IsRuleNo rs n rule
-IsRuleFinding rs n rule (Unknown m) = IsRuleUnknown rs n rule × Needs rs rule.pattern n m
-IsRuleFinding rs n rule Yes = IsRuleYes rs n rule
+abbrev pub IsRuleFound : List Reading → NodeId → Rule → Found → Type 0
+IsRuleFound rs n rule Lost = IsRuleLost rs n rule
+IsRuleFound rs n rule No = IsRuleNo rs n rule
+IsRuleFound rs n rule (Unknown m) = IsRuleUnknown rs n rule × Needs rs rule.pattern n m
+IsRuleFound rs n rule Yes = IsRuleYes rs n rule
+
+-- the same of the rule of a number
+abbrev pub IsNumberFound : List Rule → List Reading → NodeId → ℕ → Found → Type 0
+IsNumberFound rules rs n r found = (rule : Rule) → slice_get rules r ≡ Some rule → IsRuleFound rs n rule found
 
 -- rule r has the symbol at its root, and the fact holds of it
 abbrev pub HasRule : List Rule → ℕ → ℕ → (Rule → Type 0) → Type 0
@@ -43,6 +49,14 @@ IsFirstOpen rules f rs n (Some (Waits r m)) = AreNo rules f rs n r × HasRule ru
 abbrev pub IsYesInGroup : List Rule → ℕ → ℕ → List Reading → NodeId → Option ℕ → Type 0
 IsYesInGroup rules f group rs n None = (s : ℕ) (rule : Rule) → slice_get rules s ≡ Some rule → rule.symbol ≡ f → rule.group ≡ group → IsRuleYes rs n rule → ⊥
 IsYesInGroup rules f group rs n (Some r) = HasRule rules f r (λ rule. (rule.group ≡ group) × IsRuleYes rs n rule)
+
+-- rule r is the first rule of the symbol that is not No, and it is not known yet
+abbrev pub IsFirstWaiting : List Rule → ℕ → List Reading → NodeId → ℕ → Type 0
+IsFirstWaiting rules f rs n r = AreNo rules f rs n r × HasRule rules f r (λ rule. IsRuleUnknown rs n rule)
+
+-- a rule of the symbol and of the group of rule r that is Yes, if there is one
+abbrev pub IsYesBeside : List Rule → ℕ → ℕ → List Reading → NodeId → Option ℕ → Type 0
+IsYesBeside rules f r rs n found = (rule : Rule) → slice_get rules r ≡ Some rule → IsYesInGroup rules f rule.group rs n found
 
 -- the node was read, and has the symbol
 abbrev pub HasSymbolRead : List Reading → NodeId → ℕ → Type 0

@@ -2,10 +2,11 @@
 ghost use Rattle.std.specs.Prelude.{◌≡◌, ℕ, ◌⊎◌, IsTrue};
 ghost use Rattle.dactl_probe.specs.Marks.{IsMarked};
 
-/// Rules with numbers below 4160. A text has at most 4101 rules.
-#[derive(Debug, Drop)]
+/// Some of the 256 rules with numbers from `from` on.
+#[derive(Clone, Copy, Debug)]
 pub struct Marks {
-    words: [u64; 65],
+    from: u32,
+    words: [u64; 4],
 }
 
 impl Marks {
@@ -13,24 +14,51 @@ impl Marks {
     pub fn none() -> Marks
         ensures { (rule : ℕ) → IsMarked result rule → ⊥ }
     {
-        Marks { words: [0; 65] }
+        Marks::none_from(0)
+    }
+
+    fn none_from(from: u32) -> Marks
+        ensures { (rule : ℕ) → IsMarked result rule → ⊥ }
+    {
+        Marks {
+            from,
+            words: [0; 4],
+        }
     }
 
     /// Whether the rule of the number is in the set.
     pub fn has(&self, rule: u32) -> bool
         ensures { IsTrue result → IsMarked self.now rule }
     {
-        let place = (rule / 64) as usize;
-        place < 65 && (self.words[place] >> (rule % 64)) & 1 == 1
+        if rule < self.from {
+            return false;
+        }
+        let distance = rule - self.from;
+        let place = (distance / 64) as usize;
+        place < 4 && (self.words[place] >> (distance % 64)) & 1 == 1
     }
 
-    /// Adds the rule of the number, if it is below 4160.
+    /// Adds the rule of the number, if there is a place for it. Where the first place is free, the
+    /// set begins anew with this rule.
     pub fn add(&mut self, rule: u32)
         ensures { (other : ℕ) → IsMarked self.new other → (other ≡ rule) ⊎ IsMarked self.old other }
     {
-        let place = (rule / 64) as usize;
-        if place < 65 {
-            self.words[place] |= 1u64 << (rule % 64);
+        if self.words[0] & 1 == 0 {
+            *self = Marks::none_from(rule);
+        }
+        self.set(rule);
+    }
+
+    fn set(&mut self, rule: u32)
+        ensures { (other : ℕ) → IsMarked self.new other → (other ≡ rule) ⊎ IsMarked self.old other }
+    {
+        if rule < self.from {
+            return;
+        }
+        let distance = rule - self.from;
+        let place = (distance / 64) as usize;
+        if place < 4 {
+            self.words[place] |= 1u64 << (distance % 64);
         }
     }
 }

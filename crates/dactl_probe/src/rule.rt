@@ -1,19 +1,32 @@
 //! What readings tell of a rule.
-ghost use Rattle.std.specs.Prelude.{◌≡◌, ◌<◌, ◌↔◌, IsTrue};
+ghost use Rattle.std.specs.Prelude.{◌≡◌, ◌<◌, ◌↔◌, true, IsTrue, length};
 ghost use Rattle.dactl_model.specs.Matching.{bound_node, integer_of, delta, FitsWord};
 ghost use Rattle.dactl_model.specs.Programs.{IsDelta};
-ghost use Rattle.dactl_model.specs.Readings.{reading_of};
-ghost use Rattle.dactl_model.specs.RuleTold.{bindings_told, integer_read, HasResultTold, IsRuleYes};
-ghost use Rattle.dactl_probe.specs.Lost.{IsKnownLost, IsRuleLost};
-ghost use Rattle.dactl_probe.specs.Verdicts.{IsRuleFinding};
+ghost use Rattle.dactl_model.specs.Readings.{reading_of, told};
+ghost use Rattle.dactl_model.specs.RuleTold.{no_conflict, bindings_told, integer_read, HasResultTold};
+ghost use Rattle.dactl_decide.specs.Orders.{is_orderly};
+ghost use Rattle.dactl_probe.specs.Lost.{AreLost};
+ghost use Rattle.dactl_probe.specs.Verdicts.{IsRuleFound, IsNumberFound};
 
 use crate::binding::{first_bound, has_no_conflict};
 use crate::finding::{Finding, look};
 use crate::lost::Lost;
 use crate::reading::reading_of;
+use crate::verdict::rule_of;
+use dactl_decide::Deciders;
 use dactl_model::graph::{Label, NodeId};
 use dactl_model::program::{Body, Op, Rule};
 use dactl_model::reading::Reading;
+
+/// What readings tell of a rule: it fails whatever is read further, it fails, it may match once the
+/// node is read, or it matches.
+#[derive(Clone, Copy, Debug)]
+pub enum Found {
+    Lost,
+    No,
+    Unknown(NodeId),
+    Yes,
+}
 
 /// The node of the rule's variable: node 0 while no reading tells it.
 pub fn bound(readings: &[Reading], rule: &Rule, node: NodeId, variable: u8) -> NodeId
@@ -75,75 +88,57 @@ fn has_result(readings: &[Reading], rule: &Rule, node: NodeId) -> bool
     }
 }
 
+/// Whether no variable stands for two nodes, as far as the readings tell. That is sure of a rule
+/// whose variables have one binder each.
+fn is_consistent(readings: &[Reading], rule: &Rule, orderly: bool, node: NodeId) -> bool
+    requires { orderly ≡ true → is_orderly rule.now ≡ true }
+    ensures { result ≡ no_conflict (told readings.now rule.now.pattern node).pairs }
+{
+    orderly || has_no_conflict(readings, &rule.pattern, node)
+}
+
 /// What the readings tell of the rule at the node.
-fn find_rule(readings: &[Reading], rule: &Rule, node: NodeId) -> Finding
-    requires { IsDelta rule.now.body → rule.now.variables ≡ 2 }
-    ensures { IsRuleFinding readings.now node rule.now result }
+fn find_rule(readings: &[Reading], rule: &Rule, orderly: bool, node: NodeId) -> Found
+    requires operands { IsDelta rule.now.body → rule.now.variables ≡ 2 }
+    requires orderly { orderly ≡ true → is_orderly rule.now ≡ true }
+    ensures { IsRuleFound readings.now node rule.now result }
 {
     match look(readings, &rule.pattern, node) {
-        Finding::No => Finding::No,
+        Finding::No => Found::Lost,
         Finding::Unknown(need) => {
-            if has_no_conflict(readings, &rule.pattern, node) {
-                Finding::Unknown(need)
+            if is_consistent(readings, rule, orderly, node) {
+                Found::Unknown(need)
             } else {
-                Finding::No
+                Found::Lost
             }
         }
         Finding::Yes => {
-            if !has_no_conflict(readings, &rule.pattern, node) {
-                Finding::No
+            if !is_consistent(readings, rule, orderly, node) {
+                Found::Lost
             } else if has_result(readings, rule, node) {
-                Finding::Yes
+                Found::Yes
             } else {
-                Finding::No
+                Found::No
             }
         }
     }
 }
 
 /// The same of the rule with the number. It isn't looked at if it is known to be lost.
-pub fn find_unless_lost(
-    lost: &Lost,
+pub fn find(
+    deciders: &Deciders,
     number: u32,
+    lost: &Lost,
     readings: &[Reading],
-    rule: &Rule,
     node: NodeId,
-) -> Finding
-    requires operands { IsDelta rule.now.body → rule.now.variables ≡ 2 }
-    requires lost { IsKnownLost lost.now number → IsRuleLost readings.now node rule.now }
-    ensures { IsRuleFinding readings.now node rule.now result }
+) -> Found
+    requires within { number < length deciders.now.program.rules }
+    requires lost { AreLost deciders.now.program.rules readings.now node lost.now }
+    ensures { IsNumberFound deciders.now.program.rules readings.now node number result }
 {
     if lost.has(number) {
-        return Finding::No;
+        return Found::Lost;
     }
-    find_rule(readings, rule, node)
-}
-
-/// Whether the readings tell that the rule with the number matches at the node.
-fn is_yes(lost: &Lost, number: u32, readings: &[Reading], rule: &Rule, node: NodeId) -> bool
-    requires operands { IsDelta rule.now.body → rule.now.variables ≡ 2 }
-    requires lost { IsKnownLost lost.now number → IsRuleLost readings.now node rule.now }
-    ensures { IsTrue result ↔ IsRuleYes readings.now node rule.now }
-{
-    match find_unless_lost(lost, number, readings, rule, node) {
-        Finding::No | Finding::Unknown(_) => false,
-        Finding::Yes => true,
-    }
-}
-
-/// Whether the rule with the number is of the group, and the readings tell that it matches at the
-/// node.
-pub fn is_yes_in_group(
-    lost: &Lost,
-    number: u32,
-    readings: &[Reading],
-    rule: &Rule,
-    node: NodeId,
-    group: u32,
-) -> bool
-    requires operands { IsDelta rule.now.body → rule.now.variables ≡ 2 }
-    requires lost { IsKnownLost lost.now number → IsRuleLost readings.now node rule.now }
-    ensures { IsTrue result ↔ ((rule.now.group ≡ group) × IsRuleYes readings.now node rule.now) }
-{
-    rule.group == group && is_yes(lost, number, readings, rule, node)
+    let rule = rule_of(deciders.program(), number);
+    find_rule(readings, rule, deciders.is_orderly(number), node)
 }

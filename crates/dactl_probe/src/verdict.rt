@@ -3,12 +3,11 @@ ghost use Rattle.std.specs.Prelude.{◌≡◌, ◌<◌, Some, length, slice_get}
 ghost use Rattle.dactl_model.specs.Programs.{IsValid, IsDelta};
 ghost use Rattle.dactl_decide.specs.Decisions.{AreDecisions};
 ghost use Rattle.dactl_probe.specs.Lost.{AreLost};
-ghost use Rattle.dactl_probe.specs.Verdicts.{IsFirstOpen, IsYesInGroup, HasSymbolRead, IsVerdict};
+ghost use Rattle.dactl_probe.specs.Verdicts.{IsFirstOpen, IsFirstWaiting, IsYesBeside, HasSymbolRead, IsVerdict};
 
-use crate::finding::Finding;
-use crate::lost::{Lost, mark, pass};
+use crate::lost::Lost;
 use crate::reading::reading_of;
-use crate::rule::{find_unless_lost, is_yes_in_group};
+use crate::rule::{Found, find};
 use dactl_decide::Deciders;
 use dactl_model::graph::{Label, NodeId};
 use dactl_model::program::{Program, Rule};
@@ -40,52 +39,68 @@ pub fn rule_of(program: &Program, number: u32) -> &Rule
     &program.rules.as_slice()[number as usize]
 }
 
-/// The first rule of the symbol that isn't known to fail.
+/// The first rule of the symbol that isn't known to fail. Adds the rules before it to the lost ones.
 fn first_open(
     deciders: &Deciders,
     symbol: u32,
-    lost: &Lost,
+    lost: &mut Lost,
     readings: &[Reading],
     node: NodeId,
 ) -> Option<Open>
-    requires { AreLost deciders.now.program.rules readings.now node lost.now }
-    ensures { IsFirstOpen deciders.now.program.rules symbol readings.now node result }
+    requires symbol { HasSymbolRead readings.now node symbol }
+    requires lost { AreLost deciders.now.program.rules readings.now node lost.old }
+    ensures open { IsFirstOpen deciders.now.program.rules symbol readings.now node result }
+    ensures lost { AreLost deciders.now.program.rules readings.now node lost.new }
 {
-    let program = deciders.program();
+    let _program = deciders.program();
     let numbers = deciders.rules(symbol);
+    let mut passing = true;
     for place in lost.among(numbers)..numbers.len() {
         let rule = numbers[place];
-        match find_unless_lost(lost, rule, readings, rule_of(program, rule), node) {
-            Finding::No => {}
-            Finding::Unknown(need) => return Some(Open::Waits { rule, need }),
-            Finding::Yes => return Some(Open::Fires(rule)),
+        match find(deciders, rule, lost, readings, node) {
+            Found::Lost => {
+                if passing {
+                    lost.pass(rule, place + 1);
+                }
+            }
+            Found::No => passing = false,
+            Found::Unknown(need) => return Some(Open::Waits { rule, need }),
+            Found::Yes => return Some(Open::Fires(rule)),
         }
     }
     None
 }
 
-/// The first rule of the symbol in the group that matches.
-fn yes_in_group(
+/// A rule of the symbol that matches, behind the first open one and in its group. Adds rules there
+/// to the lost ones.
+fn yes_behind(
     deciders: &Deciders,
     symbol: u32,
-    group: u32,
-    lost: &Lost,
+    first: u32,
+    lost: &mut Lost,
     readings: &[Reading],
     node: NodeId,
 ) -> Option<u32>
-    requires { AreLost deciders.now.program.rules readings.now node lost.now }
-    ensures { IsYesInGroup deciders.now.program.rules symbol group readings.now node result }
+    requires first { IsFirstWaiting deciders.now.program.rules symbol readings.now node first }
+    requires lost { AreLost deciders.now.program.rules readings.now node lost.old }
+    ensures yes { IsYesBeside deciders.now.program.rules symbol first readings.now node result }
+    ensures lost { AreLost deciders.now.program.rules readings.now node lost.new }
 {
     let program = deciders.program();
     let numbers = deciders.rules(symbol);
+    let group = rule_of(program, first).group;
     for place in lost.among(numbers)..numbers.len() {
         let number = numbers[place];
-        let rule = rule_of(program, number);
-        if rule.group > group {
+        if number <= first {
+            continue;
+        }
+        if rule_of(program, number).group > group {
             return None;
         }
-        if is_yes_in_group(lost, number, readings, rule, node, group) {
-            return Some(number);
+        match find(deciders, number, lost, readings, node) {
+            Found::Lost => lost.mark(number),
+            Found::No | Found::Unknown(_) => {}
+            Found::Yes => return Some(number),
         }
     }
     None
@@ -104,14 +119,12 @@ fn at_symbol(
     ensures verdict { IsVerdict deciders.now.program readings.now node result }
     ensures lost { AreLost deciders.now.program.rules readings.now node lost.new }
 {
-    let program = deciders.program();
+    let _program = deciders.program();
     match first_open(deciders, symbol, lost, readings, node) {
         None => Verdict::Note,
         Some(Open::Fires(rule)) => Verdict::Fire(rule),
         Some(Open::Waits { rule, need }) => {
-            let group = rule_of(program, rule).group;
-            mark(deciders, symbol, group, lost, readings, node);
-            match yes_in_group(deciders, symbol, group, lost, readings, node) {
+            match yes_behind(deciders, symbol, rule, lost, readings, node) {
                 Some(other) => Verdict::Fire(other),
                 None => Verdict::Need(need),
             }
@@ -122,7 +135,7 @@ fn at_symbol(
 /// What the readings decide at the node. Adds rules to the lost ones.
 ///
 /// It takes time for the rules that are lost by the last reading, and for the open ones of the group
-/// of the first rule that is open.
+/// of the first rule that is open: each is looked at once.
 pub fn judge(deciders: &Deciders, lost: &mut Lost, readings: &[Reading], node: NodeId) -> Verdict
     requires { AreLost deciders.now.program.rules readings.now node lost.old }
     ensures verdict { IsVerdict deciders.now.program readings.now node result }
@@ -133,10 +146,7 @@ pub fn judge(deciders: &Deciders, lost: &mut Lost, readings: &[Reading], node: N
     match reading_of(readings, node) {
         None => Verdict::Need(node),
         Some(reading) => match reading.label {
-            Label::Symbol(symbol) => {
-                pass(deciders, symbol, lost, readings, node);
-                at_symbol(deciders, symbol, lost, readings, node)
-            }
+            Label::Symbol(symbol) => at_symbol(deciders, symbol, lost, readings, node),
             Label::Integer(_) => Verdict::Note,
         },
     }

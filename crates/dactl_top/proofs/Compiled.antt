@@ -10,7 +10,7 @@ use Rattle.dactl_base.specs.declared.refusal.TextFault.TheVariants as faults
 use Rattle.dactl_model.specs.declared.program.Program.{Program}
 use Rattle.dactl_syntax.specs.declared.tree.Text.{Text}
 use Rattle.dactl_syntax.specs.Faults.{phase, Precedes, NoFault, IsLeastFault, IsDueFault, TellsFaults}
-use Rattle.dactl_syntax.specs.Declarations.{items, rules}
+use Rattle.dactl_syntax.specs.Declarations.{items}
 use Rattle.dactl_syntax.specs.ScopeFaults.{HasScopeFault, ScopeFault}
 use Rattle.dactl_syntax.specs.Meaning.{CycleFault, RuleFault, TreeFault, program_of}
 use Rattle.dactl_syntax.specs.Laws.{Reads}

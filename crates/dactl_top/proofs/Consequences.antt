@@ -1,5 +1,5 @@
 -- What follows from how a call is answered: the headline, that each answer comes wherever it is due, and what is kept.
-use Rattle.std.proofs.Common.{◌≡◌, ℕ, ◌<◌, Bool, List, ◌++◌, length, Some, None, Ok, true, false, IsErr, refl, sym, ap, ◌∙◌, subst, inl, inr, arith}
+use Rattle.std.proofs.Common.{◌≡◌, ℕ, ◌<◌, Bool, List, ◌++◌, length, Some, None, Ok, true, false, IsErr, sym, ap, ◌∙◌, subst, inl, inr, arith}
 use Rattle.std.specs.Prelude.{◌⊎◌}
 use Rattle.std.specs.declared.option.Option.{Option}
 use Rattle.dactl_base.specs.declared.refusal.Refusal.{Refusal}
@@ -8,7 +8,6 @@ use Rattle.dactl_model.specs.declared.graph.End.{End}
 use Rattle.dactl_model.specs.declared.graph.End.TheVariants as end
 use Rattle.dactl_model.specs.declared.program.Program.{Program}
 use Rattle.dactl_print.specs.Texts.{end_line}
-use Rattle.dactl_print.specs.Lines.{IsGraphText}
 use Rattle.dactl_settings.specs.declared.settings.Settings.{Settings}
 use Rattle.dactl_settings.specs.Reading.{settings_of}
 use Rattle.dactl_workers.specs.declared.report.WorkerReport.{WorkerReport}
@@ -23,7 +22,7 @@ use Rattle.dactl_top.specs.Devices.{SourceChange, SinkChange, Took, IsUnread}
 use Rattle.dactl_top.specs.Given.{Given, given, HasSettings, IsText, HasText, HasUsage, HasReadFault, HasLongText}
 use Rattle.dactl_top.specs.Input.{longest}
 use Rattle.dactl_top.specs.Running.{limits_of, IsFitting, IsTooSmall, IsRun}
-use Rattle.dactl_top.specs.Outcomes.{HasCause, IsMeant, IsKept, IsTold, SameGiven, Gives, run_text, trace_if, status_of, status_of_end}
+use Rattle.dactl_top.specs.Outcomes.{HasCause, IsKept, IsTold, SameGiven, Gives, run_text, trace_if, status_of, status_of_end}
 use Rattle.dactl_top.specs.Calls.{Call, call_of, IsAnswered, given_of}
 use Rattle.dactl_top.specs.Headline.{IsOfRun, IsRunOfText}
 use Rattle.dactl_top.specs.Exact.{IsOfText, IsExact}

@@ -1,5 +1,5 @@
 -- Each well-formed graph has an order, and so a text: a visit comes to its end, since it passes each node once.
-use Rattle.std.proofs.Common.{◌≡◌, ℕ, zero, suc, ◌+◌, ◌<◌, ◌≤◌, ◌⊎◌, ◌==◌, cond, Bool, true, false, List, [], ◌∷◌, ◌++◌, length, map, slice_get, Option, Some, None, All, IsSomeAnd, refl, sym, ap, ◌∙◌, subst, inl, inr, arith, append_assoc, append-nil}
+use Rattle.std.proofs.Common.{◌≡◌, ℕ, zero, suc, ◌+◌, ◌<◌, ◌≤◌, ◌⊎◌, ◌==◌, cond, List, [], ◌∷◌, ◌++◌, length, map, Option, All, refl, sym, ap, ◌∙◌, subst, inl, inr, arith}
 use Rattle.std.specs.List.{Contains, AllByRecursion}
 use Rattle.std.proofs.lemmas.Bool.{cond-true, cond-false, eq-eqb, ne_eqb, cases_eq, cases_lt}
 use Rattle.std.proofs.lemmas.List.Elements.{Contains-append_left, Contains-push, All-map, recursion_from_All}
@@ -8,7 +8,7 @@ use Rattle.dactl_model.specs.declared.graph.NodeId.{NodeId}
 use Rattle.dactl_model.specs.declared.graph.Arc.{Arc}
 use Rattle.dactl_model.specs.declared.graph.Node.{Node}
 use Rattle.dactl_model.specs.declared.graph.Graph.{Graph}
-use Rattle.dactl_model.specs.Graphs.{HasNode, node_at, IsWellFormed, IsFineNode}
+use Rattle.dactl_model.specs.Graphs.{HasNode, IsWellFormed, IsFineNode}
 use Rattle.dactl_model.proofs.Pairs.{All-slice_get}
 use Rattle.dactl_print.specs.Order.{Visits, ended, passed, joined, targets, targets_of, number_from, IsOrder}
 use Rattle.dactl_print.specs.Lines.{graph_lines}

@@ -1,9 +1,9 @@
 -- What the workers' reports tell, when all seats and hands are taken back.
-use Rattle.std.proofs.Common.{◌≡◌, ℕ, zero, suc, ◌+◌, ◌*◌, ◌≤◌, ◌<◌, List, [], ◌∷◌, ◌++◌, map, refl, sym, ap, ◌∙◌, subst, length, length-append, take, drop, slice_get, Some, All, Contains, arith, nat_eq, if◌then◌else◌}
+use Rattle.std.proofs.Common.{◌≡◌, ℕ, zero, suc, ◌+◌, ◌*◌, ◌≤◌, ◌<◌, List, [], ◌∷◌, ◌++◌, map, refl, sym, ap, ◌∙◌, subst, length, take, drop, slice_get, Some, All, arith, nat_eq, if◌then◌else◌}
 use Rattle.std.specs.List.{sum_by, AllByRecursion, AllZip}
 use Rattle.std.proofs.Math.Nat.{mul-suc}
 use Rattle.std.proofs.lemmas.List.Sums.{sum_by-append, sum_by-cons}
-use Rattle.std.proofs.lemmas.List.Elements.{All-weaker, All-contains, recursion_from_All, length_all_zip}
+use Rattle.std.proofs.lemmas.List.Elements.{All-weaker, All-contains, recursion_from_All}
 use Rattle.std.proofs.lemmas.List.{length-map}
 use Rattle.std.proofs.Math.Seq.{take-append_seam}
 use Rattle.dactl_model.specs.declared.graph.NodeId.{NodeId}

@@ -5,7 +5,7 @@ use Rattle.dactl_model.specs.declared.program.Program.{Program}
 use Rattle.dactl_settings.specs.declared.settings.Settings.{Settings}
 use Rattle.dactl_settings.specs.Reading.{settings_of}
 use Rattle.dactl_top.specs.declared.status.Status.{Status}
-use Rattle.dactl_top.specs.declared.status.Status.TheVariants.{Normal, Checked, Budget, Usage, Refused, Full, ReadFault, WriteFault, Memory, TooLong, Small}
+use Rattle.dactl_top.specs.declared.status.Status.TheVariants.{Normal, Checked, Budget, Refused, Full, Small}
 use Rattle.dactl_top.specs.Compiling.{IsProgramOf, IsFaultOf}
 use Rattle.dactl_top.specs.Running.{limits_of, IsTooSmall, IsFitting}
 use Rattle.dactl_top.specs.Calls.{Call}

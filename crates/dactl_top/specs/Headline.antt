@@ -7,7 +7,7 @@ use Rattle.dactl_print.specs.Texts.{end_line}
 use Rattle.dactl_print.specs.Lines.{IsGraphText}
 use Rattle.dactl_settings.specs.declared.settings.Settings.{Settings}
 use Rattle.dactl_top.specs.declared.status.Status.{Status}
-use Rattle.dactl_top.specs.declared.status.Status.TheVariants.{Normal, Checked, Budget, Usage, Refused, Full, ReadFault, WriteFault, Memory, TooLong, Small}
+use Rattle.dactl_top.specs.declared.status.Status.TheVariants.{Normal, Budget, Full}
 use Rattle.dactl_top.specs.Compiling.{MeansProgram}
 use Rattle.dactl_top.specs.Devices.{Took}
 use Rattle.dactl_top.specs.Given.{HasSettings, IsText}

@@ -1,5 +1,5 @@
 -- The exit code of each answer, and the lines that tell numbers.
-use Rattle.std.specs.Prelude.{ℕ, List, codes, [], ◌++◌, decimal}
+use Rattle.std.specs.Prelude.{ℕ, List, codes, ◌++◌, decimal}
 use Rattle.dactl_base.specs.declared.refusal.Kind.{Kind}
 use Rattle.dactl_base.specs.declared.refusal.Kind.TheVariants as kinds
 use Rattle.dactl_base.specs.declared.refusal.Refusal.{Refusal}

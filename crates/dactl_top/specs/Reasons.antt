@@ -1,5 +1,5 @@
 -- Why each answer comes, and what is kept whatever the answer.
-use Rattle.std.specs.Prelude.{◌≡◌, ℕ, ◌<◌, ◌⊎◌, List, [], length, true, false, Some, None, Ok, IsErr}
+use Rattle.std.specs.Prelude.{◌≡◌, ℕ, ◌<◌, ◌⊎◌, [], length, true, false, Some, None, Ok, IsErr}
 use Rattle.dactl_base.specs.declared.refusal.Refusal.{Refusal}
 use Rattle.dactl_model.specs.declared.graph.Graph.{Graph}
 use Rattle.dactl_model.specs.declared.graph.End.{End}

@@ -75,7 +75,7 @@ fn sinks_fail_at_each_byte(rt: HostRuntime) -> Result<(), AllocError> {
     for room in 0..=APPENDED.len() {
         let source = source_of(rt.alloc(), APPEND.as_bytes(), 100)?;
         let sink = sink_of(rt.alloc(), room, 1)?;
-        let answered = called_over(&rt, rt.alloc(), "", source, sink)?;
+        let answered = called_over(&rt, rt.alloc(), "--workers|1", source, sink)?;
         assert!(rt; is_front(&answered, room), "room {room}");
     }
     Ok(())

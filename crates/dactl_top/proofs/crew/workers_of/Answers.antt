@@ -1,11 +1,9 @@
-use Rattle.std.proofs.Common.{rules, ◌≡◌, ◌+◌, ℕ, List, [], ◌∷◌, ◌++◌, All, Some, map, length, length-append, append_assoc, refl, ap, sym, ◌∙◌, subst, arith}
+use Rattle.std.proofs.Common.{rules, ◌≡◌, ◌+◌, ℕ, List, [], ◌∷◌, ◌++◌, All, Some, map, length, length-append, append_assoc, ap, sym, ◌∙◌, subst, arith}
 use Rattle.std.specs.Vec.Iter.{into_iter_items, into_iter_len}
 use Rattle.std.proofs.lemmas.List.{map-append}
 use Rattle.std.proofs.lemmas.List.Elements.{All-pop, All-push, All-from_recursion, recursion_from_All}
-use Rattle.dactl_queue.specs.declared.ruled.RuledBoard.{RuledBoard}
 use Rattle.dactl_queue.specs.declared.ruled.RuledHand.{RuledHand}
 use Rattle.dactl_queue.specs.Boards.{IsFresh as IsFreshHand}
-use Rattle.dactl_shared.specs.declared.store.SharedStore.{SharedStore}
 use Rattle.dactl_shared.specs.declared.store.WorkerSeat.{WorkerSeat}
 use Rattle.dactl_shared.specs.Stores.{IsFresh, limits_of}
 use Rattle.dactl_workers.specs.declared.worker.Worker.{Worker}

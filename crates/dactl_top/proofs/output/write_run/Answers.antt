@@ -1,5 +1,4 @@
-use Rattle.std.proofs.Common.{◌≡◌, ℕ, List, ◌++◌, length, ap, sym, ◌∙◌}
-use Rattle.dactl_print.specs.Texts.{end_line}
+use Rattle.std.proofs.Common.{ℕ, List, ◌++◌, length, ap, ◌∙◌}
 use Rattle.dactl_print.proofs.Pieces.{prints_then}
 use Rattle.dactl_print.proofs.OneOrder.{has_one_text}
 use Rattle.dactl_top.specs.Outcomes.{trace_if}

@@ -1,5 +1,4 @@
-use Rattle.std.proofs.Common.{rules, ◌≡◌, ◌<◌, ◌≤◌, ℕ, ◌+◌, ◌*◌, length, ap, sym, ◌∙◌, subst, vec_capacity, arith}
-use Rattle.dactl_queue.specs.Boards.{parts_of, share_of}
+use Rattle.std.proofs.Common.{rules, ◌≡◌, ◌≤◌, ℕ, length, sym, ◌∙◌, subst, vec_capacity, arith}
 use Rattle.dactl_shared.specs.Stores.{workers_of}
 use Rattle.dactl_top.specs.Preparing.{IsNewBoard, AreWorkers}
 use Rattle.dactl_top.proofs.Tallies.{seats_numbered}

@@ -1,11 +1,11 @@
-use Rattle.std.proofs.Common.{ℕ, List, sym, ◌∙◌, subst}
+use Rattle.std.proofs.Common.{List, sym, ◌∙◌, subst}
 use Rattle.dactl_model.specs.declared.graph.Entry.{Entry}
 use Rattle.dactl_model.specs.declared.graph.Limits.{Limits}
 use Rattle.dactl_model.specs.declared.program.Program.{Program}
 use Rattle.dactl_model.specs.Graphs.{IsWellFormed}
 use Rattle.dactl_model.specs.Ending.{Ends}
 use Rattle.dactl_print.specs.Lines.{HasSymbolsOf}
-use Rattle.dactl_shared.specs.Stores.{workers_of, limits_of}
+use Rattle.dactl_shared.specs.Stores.{workers_of}
 use Rattle.dactl_store.specs.Held.{Held}
 use Rattle.dactl_top.specs.Running.{IsFitting, IsRun}
 use Rattle.dactl_top.proofs.Runs.{ran, course_formed, course_symbols}

@@ -1,5 +1,5 @@
-use Rattle.std.proofs.Common.{rules, ◌≡◌, ◌<◌, ◌≤◌, ℕ, List, ◌++◌, All, map, take, drop, length, ap, sym, ◌∙◌, subst, vec_capacity, arith}
-use Rattle.std.specs.List.{sum_by, AllByRecursion, AllZip}
+use Rattle.std.proofs.Common.{rules, ◌≡◌, ◌<◌, ◌≤◌, ℕ, List, ◌++◌, All, take, drop, length, ap, sym, ◌∙◌, subst, vec_capacity, arith}
+use Rattle.std.specs.List.{AllZip}
 use Rattle.std.proofs.lemmas.List.Elements.{All-from_recursion, recursion_from_All, length_all_zip}
 use denote.Param.Send.{sendable}
 use Rattle.dactl_queue.specs.declared.ruled.RuledHand.{RuledHand}
@@ -8,7 +8,6 @@ use Rattle.dactl_queue.proofs.Crossing.{board_sync}
 use Rattle.dactl_settings.specs.Limits.{IsUpTo}
 use Rattle.dactl_model.specs.declared.graph.Entry.{Entry}
 use Rattle.dactl_shared.specs.Stores.{rejoined, program_of, limits_of, workers_of}
-use Rattle.dactl_shared.specs.declared.store.SharedStore.{SharedStore}
 use Rattle.dactl_shared.specs.Endings.{HasEnd, HasEndAt, HadSeenEnd}
 use Rattle.dactl_turn.specs.Gives.{entries_of, end_of}
 use Rattle.dactl_turn.specs.declared.rule.Joined.{Joined}
@@ -16,10 +15,8 @@ use Rattle.dactl_turn.specs.Seats.{first_of}
 use Rattle.dactl_turn.specs.declared.lock.Turn.{Turn}
 use Rattle.dactl_shared.specs.declared.held.Held.{Held}
 use Rattle.dactl_workers.specs.declared.worker.Worker.{Worker}
-use Rattle.dactl_workers.specs.declared.report.WorkerReport.{WorkerReport}
 use Rattle.dactl_workers.specs.Work.{HasWorked}
-use Rattle.dactl_top.specs.Reports.{AreReports}
-use Rattle.dactl_top.specs.Preparing.{IsIdle, IsDone, IsNewBoard, IsOfSeat, numbers_of}
+use Rattle.dactl_top.specs.Preparing.{IsDone, IsNewBoard, IsOfSeat, numbers_of}
 use Rattle.dactl_top.proofs.Tallies.{all_done, workers_long, handed_back, all_reports, all_signed, one_ended, weigh_ones}
 use Rattle.dactl_top.proofs.crew.Crew.work.Goals as goal
 

@@ -1,5 +1,0 @@
-use Rattle.dactl_probe.proofs.Marking.{unmarked}
-use Rattle.dactl_probe.proofs.marks.Marks.none.Goals as goal
-
-pub returns : goal.returns
-returns c = unmarked
