@@ -1,14 +1,14 @@
 //! One worker on a board of its own.
 
-ghost use Rattle.std.specs.Prelude.{◌≡◌, ◌≤◌, [], IfSome};
+ghost use Rattle.std.specs.Prelude.{◌≡◌, [], IfSome};
 ghost use Rattle.dactl_model.specs.Graphs.{IsWellFormed};
 ghost use Rattle.dactl_model.specs.Programs.{IsValid};
 ghost use Rattle.dactl_print.specs.Lines.{HasSymbolsOf};
-ghost use Rattle.dactl_shared.specs.Stores.{IsFresh, limits_of, program_of, rejoined, workers_of};
+ghost use Rattle.dactl_shared.specs.Stores.{IsFresh, program_of, rejoined, workers_of};
 ghost use Rattle.dactl_workers.specs.Work.{IsReady};
 
 use dactl_base::memory::MemorySink;
-use dactl_decide::{Deciders, compile};
+use dactl_decide::compile;
 use dactl_model::footprint::{Footprint, Woken};
 use dactl_model::graph::Limits;
 use dactl_model::program::Program;

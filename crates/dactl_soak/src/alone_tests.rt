@@ -5,9 +5,8 @@ ghost use Rattle.std.specs.Prelude.{◌≡◌, ◌<◌};
 
 use crate::alone::{printed, worked};
 use crate::boards::{DullBoard, DullHand, Offers};
-use crate::calling::compiled;
+use crate::calling::{compiled, is_run};
 use dactl_model::graph::{End, Entry, Event, Limits, NodeId};
-use dactl_plain::replay;
 use dactl_queue::{Board, RuledBoard};
 use std::alloc::Global;
 use std::sync::Wait;
@@ -48,6 +47,28 @@ fn a_worker_tries_the_node_that_the_board_gives(rt: HostRuntime) {
     }
 }
 
+// Whether it is a step of one of the two nodes that are active.
+fn is_note(entry: Option<Entry>) -> bool {
+    match entry {
+        Some(
+            Entry {
+                worker: 1,
+                event: Event::Note { node },
+            },
+        ) => node.number == 1 || node.number == 2,
+        _ => false,
+    }
+}
+
+// A node that waits, and two that are not there.
+#[test]
+fn a_worker_passes_over_a_node_that_is_not_active(rt: HostRuntime) {
+    for number in [0, 3, 99] {
+        let entry = first_step(&rt, rt.alloc(), number);
+        assert!(rt; is_note(entry), "{number}");
+    }
+}
+
 /// Two sums of leaves.
 const TREES: &str =
     "MODULE M; IMPORTS Arithmetic; SYMBOL REWRITABLE Sum; SYMBOL CREATABLE Pair, Node, Leaf; RULE Sum[Leaf[i]] => *i | Sum[Node[l r]] => ##IAdd[^*Sum[l] ^*Sum[r]]; INITIAL => Pair[*Sum[Node[Leaf[1] Node[Leaf[2] Leaf[3]]]] *Sum[Node[Leaf[4] Leaf[5]]]]; ENDMODULE M;";
@@ -78,8 +99,9 @@ where
     let program = compiled(rt, alloc, TREES)?;
     let finished = worked(rt, alloc, program, LIMITS, board, hand)?;
     let sink = printed(alloc, &finished)?;
-    let is_whole = finished.journal.len() == STEPS && finished.end == Some(End::Normal);
-    Some(is_whole && sink.held() == GRAPH)
+    let journal = finished.journal.as_slice();
+    let is_whole = journal.len() == STEPS && is_run(alloc, &finished.program, journal);
+    Some(is_whole && finished.end == Some(End::Normal) && sink.held() == GRAPH)
 }
 
 #[test]

@@ -4,6 +4,7 @@ ghost use Rattle.std.specs.Prelude.{IfSome};
 ghost use Rattle.dactl_model.specs.Programs.{IsValid};
 
 use dactl_base::memory::{MemorySink, SteadySource};
+use dactl_model::graph::Entry;
 use dactl_model::program::Program;
 use dactl_model::validity::is_valid;
 use dactl_plain::replay;
@@ -61,10 +62,7 @@ pub fn compiled<R: Threads + Wait + Sync>(rt: &R, alloc: Global, text: &str) -> 
     }
 }
 
-/// Whether the kept journal is, step by step, a run of the kept program.
-pub fn is_replayed(alloc: Global, kept: &Kept) -> bool {
-    let Some(program) = &kept.program else {
-        return false;
-    };
-    is_valid(program) && matches!(replay(alloc, program, &kept.journal), Ok(Some(_)))
+/// Whether the journal is, step by step, a run of the program.
+pub fn is_run(alloc: Global, program: &Program, journal: &[Entry]) -> bool {
+    is_valid(program) && matches!(replay(alloc, program, journal), Ok(Some(_)))
 }

@@ -1,6 +1,6 @@
 //! Many workers that want the same cells, again and again.
 
-use crate::calling::{Answered, called, is_replayed};
+use crate::calling::{Answered, called, is_run};
 use crate::meeting::{Meeting, TwoMeetings};
 use dactl_workers::{Gate, OpenGate};
 use std::alloc::{AllocError, Global};
@@ -24,8 +24,13 @@ const TWO_TURNED: &[u8] =
 
 // Whether the call wrote this end and this graph, and kept a journal that is a run.
 fn has_run(alloc: Global, answered: &Answered, end: &[u8], graph: &[u8]) -> bool {
+    let Some(program) = &answered.kept.program else {
+        return false;
+    };
     let output = answered.sink.held();
-    output.starts_with(end) && output.ends_with(graph) && is_replayed(alloc, &answered.kept)
+    output.starts_with(end)
+        && output.ends_with(graph)
+        && is_run(alloc, program, &answered.kept.journal)
 }
 
 // How many of the workers' commits came too late.
