@@ -8,8 +8,8 @@ use Rattle.std.proofs.lemmas.List.{length-map, length_push, get_or-map, get_or_r
 use Rattle.std.proofs.lemmas.Option.{none-some, same_Some}
 use Rattle.dactl_arcs.specs.declared.lists.ArcRecord.{ArcRecord}
 use Rattle.dactl_arcs.specs.declared.lists.LinkedArc.{LinkedArc}
-use Rattle.dactl_arcs.specs.Pool.{IsWalk, has, from_arc, rest_of_walk, target_of}
-use Rattle.dactl_arcs.specs.Linked.{Linked, IsIn, list_of, slot_count, IsValidLists}
+use Rattle.dactl_arcs.specs.Pool.{has, from_arc, rest_of_walk, target_of}
+use Rattle.dactl_arcs.specs.Linked.{Linked, IsIn, list_of, slot_count, IsValidLists, IsListed}
 use Rattle.dactl_arcs.specs.Moves.{record_at}
 use Rattle.dactl_arcs.specs.Links.{unlinked, next_of, records_of, lists_of, IsList, AreLists, IsSound}
 use Rattle.dactl_arcs.proofs.Walks.{IsDistinct-from_apart, has-at, has-from_arc, has_front, next_step, whole_walk}
@@ -27,7 +27,7 @@ IsSound-none slots room capacity firsts arcs fits taken no_first no_arc =
 
 -- The fields, and what a contract sees of them.
 module _ (firsts : List (Option ℕ)) (arcs : List LinkedArc) (room capacity : ℕ) (sound : IsSound firsts arcs room capacity) where
-  walk_of : (slot : ℕ) → slot < length firsts → IsWalk (records_of arcs) slot (get_or (lists_of firsts arcs) slot [])
+  walk_of : (slot : ℕ) → slot < length firsts → IsListed (records_of arcs) slot (get_or (lists_of firsts arcs) slot [])
   walk_of slot inside =
       let list = sound.lists.each slot inside in
       record {

@@ -7,8 +7,8 @@ use Rattle.std.proofs.lemmas.List.{length-map, get_or-map, get_or_read, map-appe
 use Rattle.std.specs.Option.{option_map}
 use Rattle.std.proofs.lemmas.Option.{get_or_from_slice_get, slice_get-map, slice_get_within}
 use Rattle.dactl_arcs.specs.declared.lists.ArcRecord.{ArcRecord}
-use Rattle.dactl_arcs.specs.Pool.{IsWalk, arc_record, target_of}
-use Rattle.dactl_arcs.specs.Linked.{Linked, IsIn, list_of, slot_count, IsValidLists}
+use Rattle.dactl_arcs.specs.Pool.{arc_record, target_of}
+use Rattle.dactl_arcs.specs.Linked.{Linked, IsIn, list_of, slot_count, IsValidLists, IsListed}
 use Rattle.dactl_arcs.specs.Moves.{cleared, idle, record_at, sent_to}
 use Rattle.dactl_arcs.specs.Naming.{number_at, named, named_pool, IsNaming, swapped_slot, swapped}
 use Rattle.dactl_arcs.proofs.Linking.{get_set}
@@ -130,7 +130,7 @@ module _ (lists : Linked) (names homes : List ℕ) (is : IsNaming (slot_count li
       (omega (arith, leads.0, long_seen), target_seen arc leads.0 ∙ ap (number_at names) leads.1 ∙ (is.home slot inside).1)
 
   module _ (valid : IsValidLists lists) where
-    walk_seen : (slot : ℕ) → slot < slot_count lists → IsWalk seen.arcs slot (list_of lists (number_at homes slot))
+    walk_seen : (slot : ℕ) → slot < slot_count lists → IsListed seen.arcs slot (list_of lists (number_at homes slot))
     walk_seen slot inside =
         let home = number_at homes slot in
         let walk = valid.walks home (is.home slot inside).0 in
@@ -155,7 +155,7 @@ module _ (lists : Linked) (names homes : List ℕ) (is : IsNaming (slot_count li
           omega (arith, target_seen arc below, targets_seen, (is.name (target_of lists.arcs arc) (valid.within arc below)).0);
       walks = λ slot inside.
           let below : slot < slot_count lists = omega (arith, targets_seen) in
-          subst (IsWalk seen.arcs slot) (sym (into_seen slot below)) (walk_seen slot below);
+          subst (IsListed seen.arcs slot) (sym (into_seen slot below)) (walk_seen slot below);
     }
 
   -- an arc goes to another list

@@ -11,6 +11,7 @@ use Rattle.dactl_arcs.specs.declared.lists.ArcRecord.{ArcRecord}
 use Rattle.dactl_arcs.specs.declared.stamped.ArcStamp.{ArcStamp}
 use Rattle.dactl_arcs.specs.Pool.{Pool, target_of, targets}
 use Rattle.dactl_arcs.specs.Linked.{Linked, IsIn, IsValidLists}
+use Rattle.dactl_arcs.specs.Halves.{seen, target_in}
 use Rattle.dactl_arcs.specs.Moves.{cleared, idle, moved_to, record_at, sent_to}
 use Rattle.dactl_arcs.specs.Naming.{swapped_slot, swapped}
 use Rattle.dactl_arcs.specs.Stamps.{AreStamped, IsStamped, IsValidStamped, changed_by, changes, change_of, last_change}
@@ -84,32 +85,36 @@ changes-swapped arcs stamps slots from to long different from_in to_in =
     ap (λ x. last_change x (get_or stamps k no_stamp)) (ap (λ x. get_or after x 0) t ∙ same))
 
 -- the stamp of a list is greater than all that its arcs had at joining
-pub changes-stamped : (arcs : List ArcRecord) (stamps : List ArcStamp) (slots after : List ℕ) (moves : List (ℕ × ℕ)) (stamp newest : ℕ) → length stamps ≡ length arcs
+pub changes-stamped : (half : ℕ) (arcs : List ArcRecord) (stamps : List ArcStamp) (slots after : List ℕ) (moves : List (ℕ × ℕ)) (stamp newest : ℕ) → length stamps ≡ length arcs
     → ((k : ℕ) → k < length arcs → target_of arcs k < length slots) → All (λ s. (s.own ≤ newest) × (s.joined ≤ newest)) stamps → newest < stamp
-    → ((slot : ℕ) → slot < length slots → get_or after slot 0 ≡ cond (eqb (moved_to moves slot) slot) (get_or slots slot 0) stamp)
-    → changes arcs stamps after ≡ changed_by moves stamp arcs (changes arcs stamps slots)
-changes-stamped arcs stamps slots after moves stamp newest long within joined newer each =
+    → ((slot : ℕ) → slot < length slots → get_or after slot 0 ≡ cond (eqb (moved_to moves (target_in half slot)) (target_in half slot)) (get_or slots slot 0) stamp)
+    → changes arcs stamps after ≡ changed_by moves stamp (map (seen half) arcs) (changes arcs stamps slots)
+changes-stamped half arcs stamps slots after moves stamp newest long within joined newer each =
     let old = changes arcs stamps slots in
     let old_long = length-changes arcs stamps slots long in
     let f = λ (p : ArcRecord × ℕ). cond (eqb (moved_to moves p.0.target) p.0.target) p.1 stamp in
     let one = length-changes arcs stamps after long in
-    let other : length (changed_by moves stamp arcs old) ≡ length arcs = length-map (zip arcs old) f ∙ length-zip arcs old ∙ omega (arith, old_long) in
-    same_lists (changes arcs stamps after) (changed_by moves stamp arcs old) (one ∙ sym other) (λ k d inside.
+    let by_target = map (seen half) arcs in
+    let targets_long = length-map arcs (seen half) in
+    let other : length (changed_by moves stamp by_target old) ≡ length arcs = length-map (zip by_target old) f ∙ length-zip by_target old ∙ omega (arith, old_long, targets_long) in
+    same_lists (changes arcs stamps after) (changed_by moves stamp by_target old) (one ∙ sym other) (λ k d inside.
     let below : k < length arcs = omega (arith, one) in
     let t = target_of arcs k in
     let s = get_or stamps k no_stamp in
     let before : s.joined ≤ newest = (joined k no_stamp (omega (arith, long))).1 in
-    let right : get_or (changed_by moves stamp arcs old) k d ≡ cond (eqb (moved_to moves t) t) (last_change (get_or slots t 0) s) stamp =
-    get_or-map f (zip arcs old) k (no_arc, 0) d (omega (arith, length-zip arcs old, old_long))
-    ∙ ap f (get_or-zip arcs old k (no_arc, 0) below (omega (arith, old_long)))
-    ∙ ap (λ x. cond (eqb (moved_to moves t) t) x stamp) (change_at arcs stamps slots k 0 long below) in
+    let n = target_in half t in
+    let right : get_or (changed_by moves stamp by_target old) k d ≡ cond (eqb (moved_to moves n) n) (last_change (get_or slots t 0) s) stamp =
+    get_or-map f (zip by_target old) k (no_arc, 0) d (omega (arith, length-zip by_target old, old_long, targets_long))
+    ∙ ap f (get_or-zip by_target old k (no_arc, 0) (omega (arith, targets_long)) (omega (arith, old_long)))
+    ∙ ap (λ a. f (a, get_or old k 0)) (get_or-map (seen half) arcs k no_arc no_arc below)
+    ∙ ap (λ x. cond (eqb (moved_to moves n) n) x stamp) (change_at arcs stamps slots k 0 long below) in
     change_at arcs stamps after k d long below ∙ ap (λ x. last_change x s) (each t (within k below))
-    ∙ elim (cases_Bool (eqb (moved_to moves t) t)) [
-      | inl stays ↦ ap (λ x. last_change x s) (cond-true (eqb (moved_to moves t) t) (get_or slots t 0) stamp stays) ∙ sym (cond-true (eqb (moved_to moves t) t) (last_change (get_or slots t 0) s) stamp stays)
+    ∙ elim (cases_Bool (eqb (moved_to moves n) n)) [
+      | inl stays ↦ ap (λ x. last_change x s) (cond-true (eqb (moved_to moves n) n) (get_or slots t 0) stamp stays) ∙ sym (cond-true (eqb (moved_to moves n) n) (last_change (get_or slots t 0) s) stamp stays)
       | inr goes ↦
-          ap (λ x. last_change x s) (cond-false (eqb (moved_to moves t) t) (get_or slots t 0) stamp goes)
+          ap (λ x. last_change x s) (cond-false (eqb (moved_to moves n) n) (get_or slots t 0) stamp goes)
           ∙ cond-true (ltb s.joined stamp) stamp s.own (lt-ltb s.joined stamp (omega arith))
-          ∙ sym (cond-false (eqb (moved_to moves t) t) (last_change (get_or slots t 0) s) stamp goes)
+          ∙ sym (cond-false (eqb (moved_to moves n) n) (last_change (get_or slots t 0) s) stamp goes)
     ]
     ∙ sym right)
 
@@ -212,8 +217,8 @@ module _ (lists : Linked) (stamps : List ArcStamp) (slots : List ℕ) (newest ca
         ∙ ap (λ x. changes lists.arcs stamps slots ++ x ∷ []) fresh ∙ ap (λ m. m.changed ++ 0 ∷ []) view_is
 
     -- the moves' slots are stamped
-    pub stamped_changes : (moves : List (ℕ × ℕ)) (stamp : ℕ) (after : List ℕ) → pool.newest < stamp → AreStamped moves stamp slots after → IsValidLists lists
-        → changes lists.arcs stamps after ≡ changed_by moves stamp pool.arcs pool.changed
-    stamped_changes moves stamp after newer are valid =
-        changes-stamped lists.arcs stamps slots after moves stamp newest is.arcs_long (λ k below. omega (arith, valid.within k below, is.slots_long)) is.arcs_old (omega (arith, ap (λ m. m.newest) view_is)) are.each
-        ∙ ap (λ m. changed_by moves stamp m.arcs m.changed) view_is
+    pub stamped_changes : (half : ℕ) (moves : List (ℕ × ℕ)) (stamp : ℕ) (after : List ℕ) → pool.newest < stamp → AreStamped half moves stamp slots after → IsValidLists lists
+        → changes lists.arcs stamps after ≡ changed_by moves stamp (map (seen half) pool.arcs) pool.changed
+    stamped_changes half moves stamp after newer are valid =
+        changes-stamped half lists.arcs stamps slots after moves stamp newest is.arcs_long (λ k below. omega (arith, valid.within k below, is.slots_long)) is.arcs_old (omega (arith, ap (λ m. m.newest) view_is)) are.each
+        ∙ ap (λ m. changed_by moves stamp (map (seen half) m.arcs) m.changed) view_is

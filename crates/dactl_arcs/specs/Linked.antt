@@ -1,7 +1,8 @@
 -- What the layers below the pool show: arcs in a list for each slot. No public clause cites this module.
-use Rattle.std.specs.Prelude.{◌≡◌, ℕ, ◌<◌, ◌≤◌, List, [], length, slice_index_or}
+use Rattle.std.specs.Prelude.{◌≡◌, ℕ, ◌<◌, ◌≤◌, ◌==◌, ◌&&◌, List, [], length, nat_eq, nat_lt, slice_index_or}
+use Rattle.std.specs.List.{IsDistinct}
 use Rattle.dactl_arcs.specs.declared.lists.ArcRecord.{ArcRecord}
-use Rattle.dactl_arcs.specs.Pool.{Pool, IsWalk, target_of}
+use Rattle.dactl_arcs.specs.Pool.{Pool, has, target_of}
 
 -- the arcs by number, for each slot the arcs in its list in the order of a walk, and how many arcs there
 -- may be
@@ -30,8 +31,13 @@ pub record IsSameSize (old new : Linked) : Type 0 where
   pub slots : slot_count new ≡ slot_count old
   pub room : new.room ≡ old.room
 
+-- the list has each arc whose target is the slot once, and no other arc
+pub record IsListed (arcs : List ArcRecord) (slot : ℕ) (walk : List ℕ) : Type 0 where
+  pub distinct : IsDistinct nat_eq walk
+  pub members : (arc : ℕ) → has walk arc ≡ (nat_lt arc (length arcs) && (target_of arcs arc == slot))
+
 -- what holds of all lists
 pub record IsValidLists (lists : Linked) : Type 0 where
   pub few : length lists.arcs ≤ lists.room
   pub within : (arc : ℕ) → arc < length lists.arcs → target_of lists.arcs arc < slot_count lists
-  pub walks : (slot : ℕ) → slot < slot_count lists → IsWalk lists.arcs slot (list_of lists slot)
+  pub walks : (slot : ℕ) → slot < slot_count lists → IsListed lists.arcs slot (list_of lists slot)

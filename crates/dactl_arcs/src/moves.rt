@@ -1,6 +1,6 @@
 //! Pairs of numbers, each of which sends the first number to the second.
 
-ghost use Rattle.std.specs.Prelude.{◌≡◌, ◌<◌, ◌==◌, length, slice_set, if◌then◌else◌};
+ghost use Rattle.std.specs.Prelude.{◌≡◌, ◌+◌, ◌<◌, ◌≤◌, ◌^◌, ◌==◌, length, slice_set, if◌then◌else◌};
 ghost use Rattle.dactl_arcs.specs.Moves.{moved_to};
 ghost use Rattle.dactl_arcs.specs.Kept.{AreBelow};
 ghost use Rattle.dactl_arcs.specs.Stamps.{AreStamped};
@@ -18,24 +18,29 @@ pub fn moved_number(moves: &[(u32, u32)], number: u32) -> u32
     number
 }
 
-// Gives the stamp to a slot, unless it is sent to itself.
-fn stamp_slot(slots: &mut [u32], from: u32, to: u32, stamp: u32)
-    requires { from < length slots.old }
-    ensures { slots.new ≡ (if to == from then slots.old else slice_set slots.old from stamp) }
+// Gives the stamp to both slots of a number, unless it is sent to itself.
+fn stamp_both(slots: &mut [u32], half: u32, from: u32, to: u32, stamp: u32)
+    requires below { half + from < length slots.old }
+    requires fits { half + from < 2 ^ 32 }
+    ensures { slots.new
+        ≡ (if to == from then slots.old else slice_set (slice_set slots.old from stamp) (half + from) stamp) }
 {
     if to == from {
         return;
     }
     slots[from as usize] = stamp;
+    slots[(half + from) as usize] = stamp;
 }
 
-/// Gives the stamp to each slot that the pairs send elsewhere.
-pub fn stamp_slots(slots: &mut [u32], moves: &[(u32, u32)], stamp: u32)
-    requires below { AreBelow (length slots.old) moves.now }
-    ensures { AreStamped moves.now stamp slots.old slots.new }
+/// Gives the stamp to each slot that the pairs send elsewhere, and to the one that lies `half` behind it.
+pub fn stamp_slots(slots: &mut [u32], moves: &[(u32, u32)], half: u32, stamp: u32)
+    requires below { AreBelow half moves.now }
+    requires halves { half + half ≤ length slots.old }
+    requires fits { half + half < 2 ^ 32 }
+    ensures { AreStamped half moves.now stamp slots.old slots.new }
 {
     for pair in moves {
         let to = moved_number(moves, pair.0);
-        stamp_slot(slots, pair.0, to, stamp);
+        stamp_both(slots, half, pair.0, to, stamp);
     }
 }

@@ -40,7 +40,7 @@ fn numbers_below(alloc: Global, count: u32) -> Result<Vec<u32>, Memory>
 {
     let mut all = Vec::with_capacity(alloc, count as usize)?;
     for number in 0..count {
-        all.push(number)?;
+        all.push_reserved(number);
     }
     Ok(all)
 }
@@ -52,10 +52,13 @@ impl NamedLists {
         ensures slots { IfOk result (λ lists. slot_count lists ≡ slots) }
         ensures room { IfOk result (λ lists. lists.room ≡ arcs) }
     {
+        let names = numbers_below(alloc, slots)?;
+        let homes = Vec::from_slice(alloc, names.as_slice())?;
+        let lists = Lists::with_room(alloc, slots as usize, arcs)?;
         Ok(NamedLists {
-            lists: Lists::with_room(alloc, slots as usize, arcs)?,
-            names: numbers_below(alloc, slots)?,
-            homes: numbers_below(alloc, slots)?,
+            lists,
+            names,
+            homes,
         })
     }
 

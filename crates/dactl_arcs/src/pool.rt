@@ -1,9 +1,10 @@
 //! The pool: arcs between numbered nodes, and the redirection of all arcs into a node.
 
-ghost use Rattle.std.specs.Prelude.{◌≡◌, ◌+◌, ◌<◌, ◌≤◌, ◌^◌, ◌↔◌, [], ◌∷◌, ◌++◌, length, map, slice_get, Some, IfOk, IfSome, OnOk, OnErr, IsErr};
+ghost use Rattle.std.specs.Prelude.{◌≡◌, ◌+◌, ◌<◌, ◌≤◌, ◌^◌, ◌↔◌, [], ◌∷◌, ◌++◌, All, length, map, slice_get, Some, IfOk, IfSome, OnOk, OnErr, IsErr, if◌then◌else◌};
 ghost use Rattle.dactl_arcs.specs.Pool.{IsValid, LeadsTo, arc_record, arcs_into, rest_of_walk, target_of, targets};
 ghost use Rattle.dactl_arcs.specs.Moves.{cleared, landed, parked, retargeted};
-ghost use Rattle.dactl_arcs.specs.Kept.{AreBelow, IsKept};
+ghost use Rattle.dactl_arcs.specs.Kept.{AreBelow, IsBelow, IsKept};
+ghost use Rattle.dactl_arcs.specs.Halves.{AreShiftedBelow, seen, shifted, target_in};
 ghost use Rattle.dactl_arcs.specs.Stamps.{changed_by};
 
 use crate::lists::{ArcRecord, Memory};
@@ -15,6 +16,9 @@ use thiserror::Error;
 /// How many pairs one redirection has at most.
 pub const MOST_MOVES: u32 = 65;
 
+/// The greatest number of nodes between which a pool has arcs.
+pub const MOST_TARGETS: u32 = 2_147_483_615;
+
 /// The pool has no room for a further arc.
 #[derive(Debug, Drop, Error)]
 #[error("the pool of arcs is full")]
@@ -23,72 +27,125 @@ pub struct PoolFull;
 /// Arcs between numbered nodes, each with the list of the arcs into it.
 ///
 /// Arcs are numbered from 0 in the order in which they were added, and stay. A walk from `first_into` by
-/// `next_into` visits each arc into a node once, in an order that is left open and that may change where
-/// arcs are added or redirected. No call but `with_room` takes memory.
+/// `next_into` visits each arc into a node along which its owner waits once, and no other arc, in an order that
+/// is left open and that may change where arcs are added or redirected. No call but `with_room` takes memory.
 #[derive(Drop)]
 pub struct ArcPool {
-    // A slot for each target, and behind them a spare one for each pair of a redirection.
+    // A slot for each target with the arcs along which nobody waits, behind these slots as many for the other
+    // arcs, and behind them a spare one for each pair of a redirection.
     lists: StampedLists,
     targets: u32,
 }
 
 impl Model for ArcPool {
-    ghost use Rattle.std.specs.Prelude.{take};
     ghost use Rattle.dactl_arcs.specs.Pool.{Pool};
 
     ghost Value = { Pool };
 
-    ghost use Rattle.dactl_arcs.specs.Kept.{IsOver};
+    ghost use Rattle.dactl_arcs.specs.Halves.{IsOver, pool_seen};
 
-    ghost view = { λ p. record {
-      arcs = p.lists.arcs;
-      into = take p.targets p.lists.into;
-      room = p.lists.room;
-      changed = p.lists.changed;
-      newest = p.lists.newest;
-    } };
+    ghost view = { λ p. pool_seen p.targets p.lists };
 
     ghost invariant = { λ p. IsOver p.lists p.targets };
 }
 
-// Moves the arcs into the first number of each pair to the pair's own spare slot, which is empty, so that
-// the two change their lists. A number that an earlier pair began with has no arcs left.
-fn park(lists: &mut StampedLists, moves: &[(u32, u32)], spare: u32)
-    requires slots { spare + length moves.now ≤ targets lists.old }
-    requires fits { spare + length moves.now < 2 ^ 32 }
-    requires below { AreBelow spare moves.now }
-    ensures arcs { lists.new.arcs ≡ map (parked spare moves.now) lists.old.arcs }
-    ensures kept { IsKept lists.old lists.new }
-    ensures changed { lists.new.changed ≡ lists.old.changed }
-    ensures newest { lists.new.newest ≡ lists.old.newest }
+// The target of a slot.
+fn target_in(half: u32, slot: u32) -> u32
+    ensures { result ≡ target_in half slot }
 {
-    for (place, pair) in moves.iter().enumerate() {
-        lists.merge(pair.0, spare + place as u32);
+    if slot < half { slot } else { slot - half }
+}
+
+// The arc that names its slot, by its target.
+fn arc_seen(half: u32, arc: ArcRecord) -> ArcRecord
+    ensures { result ≡ seen half arc }
+{
+    ArcRecord {
+        target: target_in(half, arc.target),
+        ..arc
     }
 }
 
-// Moves the arcs in each pair's spare slot to the pair's second number.
-fn land(lists: &mut StampedLists, moves: &[(u32, u32)], spare: u32)
+// The slot for the arcs into a target, by their flag.
+fn slot_for(half: u32, target: u32, waits: bool) -> u32
+    requires target { target < half }
+    requires fits { half + half < 2 ^ 32 }
+    ensures { result ≡ (if waits then half + target else target) }
+{
+    if waits { half + target } else { target }
+}
+
+// Moves all arcs of a slot to another, which may be the same.
+fn move_slot(lists: &mut StampedLists, from: u32, to: u32)
+    requires from_in_range { from < targets lists.old }
+    requires to_in_range { to < targets lists.old }
+    ensures arcs { lists.new.arcs ≡ map (retargeted ((from, to) ∷ [])) lists.old.arcs }
+    ensures kept { IsKept lists.old lists.new }
+    ensures changed { lists.new.changed ≡ lists.old.changed }
+    ensures newest { lists.new.newest ≡ lists.old.newest }
+{
+    if from != to {
+        lists.merge(from, to);
+    }
+}
+
+// Moves the arcs of the first slot of each pair, which are `shift` higher, to the pair's own spare slot, which is
+// empty, so that the two change their lists. A slot that an earlier pair began with has no arcs left.
+fn park(lists: &mut StampedLists, moves: &[(u32, u32)], shift: u32, spare: u32)
     requires slots { spare + length moves.now ≤ targets lists.old }
     requires fits { spare + length moves.now < 2 ^ 32 }
-    requires below { AreBelow spare moves.now }
-    ensures arcs { lists.new.arcs ≡ map (landed spare moves.now) lists.old.arcs }
+    requires below { AreShiftedBelow shift spare moves.now }
+    ensures arcs { lists.new.arcs ≡ map (parked spare (shifted shift moves.now)) lists.old.arcs }
     ensures kept { IsKept lists.old lists.new }
     ensures changed { lists.new.changed ≡ lists.old.changed }
     ensures newest { lists.new.newest ≡ lists.old.newest }
 {
     for (place, pair) in moves.iter().enumerate() {
-        lists.merge(spare + place as u32, pair.1);
+        lists.merge(shift + pair.0, spare + place as u32);
     }
+}
+
+// Moves the arcs in each pair's spare slot to the pair's second slot.
+fn land(lists: &mut StampedLists, moves: &[(u32, u32)], shift: u32, spare: u32)
+    requires slots { spare + length moves.now ≤ targets lists.old }
+    requires fits { spare + length moves.now < 2 ^ 32 }
+    requires below { AreShiftedBelow shift spare moves.now }
+    ensures arcs { lists.new.arcs ≡ map (landed spare (shifted shift moves.now)) lists.old.arcs }
+    ensures kept { IsKept lists.old lists.new }
+    ensures changed { lists.new.changed ≡ lists.old.changed }
+    ensures newest { lists.new.newest ≡ lists.old.newest }
+{
+    for (place, pair) in moves.iter().enumerate() {
+        lists.merge(spare + place as u32, shift + pair.1);
+    }
+}
+
+// Moves the arcs of the slots that the pairs name, `shift` higher, all at the same time.
+fn move_slots(lists: &mut StampedLists, moves: &[(u32, u32)], shift: u32, spare: u32)
+    requires slots { spare + length moves.now ≤ targets lists.old }
+    requires fits { spare + length moves.now < 2 ^ 32 }
+    requires below { AreShiftedBelow shift spare moves.now }
+    requires ends { All (IsBelow spare) lists.old.arcs }
+    ensures arcs { lists.new.arcs ≡ map (retargeted (shifted shift moves.now)) lists.old.arcs }
+    ensures kept { IsKept lists.old lists.new }
+    ensures changed { lists.new.changed ≡ lists.old.changed }
+    ensures newest { lists.new.newest ≡ lists.old.newest }
+{
+    if moves.len() == 1 {
+        move_slot(lists, shift + moves[0].0, shift + moves[0].1);
+        return;
+    }
+    park(lists, moves, shift, spare);
+    land(lists, moves, shift, spare);
 }
 
 impl ArcPool {
     /// An empty pool, with room for so many arcs between so many nodes. It takes 28 bytes for each arc and
-    /// 20 for each node.
+    /// 40 for each node.
     ///
     /// # Errors
     ///
-    /// `Memory` where there is not enough memory, and where `targets` is above `u32::MAX - MOST_MOVES`.
+    /// `Memory` where there is not enough memory, and where `targets` is above `MOST_TARGETS`.
     pub fn with_room(alloc: Global, targets: u32, arcs: u32) -> Result<ArcPool, Memory>
         ensures arcs { IfOk result (λ pool. pool.arcs ≡ []) }
         ensures number { IfOk result (λ pool. length pool.into ≡ targets) }
@@ -96,10 +153,10 @@ impl ArcPool {
         ensures changed { IfOk result (λ pool. pool.changed ≡ []) }
         ensures newest { IfOk result (λ pool. pool.newest ≡ 0) }
     {
-        if targets > u32::MAX - MOST_MOVES {
+        if targets > MOST_TARGETS {
             return Err(AllocError);
         }
-        let lists = StampedLists::with_room(alloc, targets + MOST_MOVES, arcs)?;
+        let lists = StampedLists::with_room(alloc, targets + targets + MOST_MOVES, arcs)?;
         Ok(ArcPool { lists, targets })
     }
 
@@ -138,6 +195,7 @@ impl ArcPool {
         if number == self.lists.room() {
             return Err(PoolFull);
         }
+        let target = slot_for(self.targets, target, waits);
         self.lists.push(ArcRecord {
             owner,
             target,
@@ -151,10 +209,11 @@ impl ArcPool {
         requires { arc < length self.now.arcs }
         ensures { slice_get self.now.arcs arc ≡ Some result }
     {
-        self.lists.arc(arc)
+        arc_seen(self.targets, self.lists.arc(arc))
     }
 
-    /// The arc at which a walk along the arcs into the target begins, if there are any.
+    /// The arc at which a walk along the arcs into the target along which their owners wait begins, if there
+    /// are any.
     pub fn first_into(&self, target: u32) -> Option<u32>
         requires { target < targets self.now }
         ensures first { result ≡ slice_get (arcs_into self.now target) 0 }
@@ -162,12 +221,12 @@ impl ArcPool {
         ensures leads { IfSome result (LeadsTo self.now target) }
         ensures valid { IsValid self.now }
     {
-        self.lists.first_into(target)
+        self.lists.first_into(self.targets + target)
     }
 
     /// The arc at which a walk that has come to this arc goes on, unless it is the last.
     pub fn next_into(&self, arc: u32) -> Option<u32>
-        requires { arc < length self.now.arcs }
+        requires { LeadsTo self.now (target_of self.now.arcs arc) arc }
         ensures next { let walk = arcs_into self.now (target_of self.now.arcs arc) in
             result ≡ slice_get (rest_of_walk (Some arc) walk) 1 }
         ensures rest { let walk = arcs_into self.now (target_of self.now.arcs arc) in
@@ -194,9 +253,10 @@ impl ArcPool {
         ensures newest { self.new.newest ≡ stamp }
         ensures kept { IsKept self.old self.new }
     {
-        self.lists.stamp_moved(moves, stamp);
-        park(&mut self.lists, moves, self.targets);
-        land(&mut self.lists, moves, self.targets);
+        let spare = self.targets + self.targets;
+        self.lists.stamp_moved(moves, self.targets, stamp);
+        move_slots(&mut self.lists, moves, 0, spare);
+        move_slots(&mut self.lists, moves, self.targets, spare);
     }
 
     /// The last change of the arc: the stamp of the redirection that gave it its target, or 0 where it has
@@ -205,18 +265,29 @@ impl ArcPool {
         requires { arc < length self.now.arcs }
         ensures { slice_get self.now.changed arc ≡ Some result }
     {
-        self.lists.changed(arc)
+        self.lists.arc_and_change(arc).1
     }
 
-    /// Clears the flags of the arcs into the target, in the time of a walk along them.
+    /// The arc of this number, and its last change.
+    pub fn arc_and_change(&self, arc: u32) -> (ArcRecord, u32)
+        requires { arc < length self.now.arcs }
+        ensures arc { slice_get self.now.arcs arc ≡ Some result.0 }
+        ensures changed { slice_get self.now.changed arc ≡ Some result.1 }
+    {
+        let (record, change) = self.lists.arc_and_change(arc);
+        (arc_seen(self.targets, record), change)
+    }
+
+    /// Clears the flags of the arcs into the target, in the time of a walk along those that have one.
     pub fn clear_waits(&mut self, target: u32)
         requires { target < targets self.old }
         ensures arcs { self.new.arcs ≡ map (cleared target) self.old.arcs }
-        ensures into { self.new.into ≡ self.old.into }
-        ensures room { self.new.room ≡ self.old.room }
+        ensures kept { IsKept self.old self.new }
         ensures changed { self.new.changed ≡ self.old.changed }
         ensures newest { self.new.newest ≡ self.old.newest }
     {
-        self.lists.clear_waits(target);
+        let slot = self.targets + target;
+        self.lists.clear_waits(slot);
+        self.lists.merge(slot, target);
     }
 }

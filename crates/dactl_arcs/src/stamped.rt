@@ -2,7 +2,9 @@
 //! along what the stamp of the list says of it.
 
 ghost use Rattle.std.specs.Prelude.{◌≡◌, ◌≢◌, ◌+◌, ◌<◌, ◌≤◌, ◌^◌, ◌==◌, ℕ, [], ◌∷◌, ◌++◌, length, map, slice_get, slice_set, slice_index_or, Some, IfOk, IfSome, if◌then◌else◌};
-ghost use Rattle.dactl_arcs.specs.Pool.{LeadsTo, targets, target_of, arcs_into, rest_of_walk};
+ghost use Rattle.dactl_arcs.specs.Pool.{targets, target_of, arcs_into, rest_of_walk};
+ghost use Rattle.dactl_arcs.specs.Linked.{IsIn, linked};
+ghost use Rattle.dactl_arcs.specs.Halves.{seen};
 ghost use Rattle.dactl_arcs.specs.Moves.{cleared, moved_to, record_at, retargeted, sent_to};
 ghost use Rattle.dactl_arcs.specs.Kept.{AreBelow, IsKept};
 ghost use Rattle.dactl_arcs.specs.Naming.{swapped};
@@ -106,7 +108,7 @@ impl StampedLists {
             result ≡ slice_get (rest_of_walk (Some arc) walk) 1 }
         ensures rest { let walk = arcs_into self.now (target_of self.now.arcs arc) in
             rest_of_walk (Some arc) walk ≡ arc ∷ rest_of_walk result walk }
-        ensures leads { IfSome result (LeadsTo self.now (target_of self.now.arcs arc)) }
+        ensures leads { IfSome result (IsIn (linked self.now) (target_of self.now.arcs arc)) }
     {
         self.lists.next_into(arc)
     }
@@ -137,13 +139,15 @@ impl StampedLists {
         self.lists.clear_waits(slot);
     }
 
-    /// When the arc last changed its target.
-    pub fn changed(&self, arc: u32) -> u32
+    /// The arc of this number, and when it last changed its target.
+    pub fn arc_and_change(&self, arc: u32) -> (ArcRecord, u32)
         requires { arc < length self.now.arcs }
-        ensures { slice_get self.now.changed arc ≡ Some result }
+        ensures arc { slice_get self.now.arcs arc ≡ Some result.0 }
+        ensures changed { slice_get self.now.changed arc ≡ Some result.1 }
     {
-        let target = self.lists.arc(arc).target;
-        last_change(self.slots[target as usize], self.stamps[arc as usize])
+        let record = self.lists.arc(arc);
+        let list = self.slots[record.target as usize];
+        (record, last_change(list, self.stamps[arc as usize]))
     }
 
     /// The first arc of the slot's list.
@@ -151,7 +155,7 @@ impl StampedLists {
         requires { slot < targets self.now }
         ensures first { result ≡ slice_get (arcs_into self.now slot) 0 }
         ensures whole { rest_of_walk result (arcs_into self.now slot) ≡ arcs_into self.now slot }
-        ensures leads { IfSome result (LeadsTo self.now slot) }
+        ensures leads { IfSome result (IsIn (linked self.now) slot) }
         ensures valid { IsValidStamped self.now }
     {
         self.lists.first_into(slot)
@@ -225,18 +229,20 @@ impl StampedLists {
     }
 
     /// Gives the stamp to each arc whose target the pairs send elsewhere, in a time that doesn't depend on the
-    /// arcs.
-    pub fn stamp_moved(&mut self, moves: &[(u32, u32)], stamp: u32)
-        requires below { AreBelow (targets self.old) moves.now }
+    /// arcs. The arcs of a target lie in its slot and, `half` behind, in a second one.
+    pub fn stamp_moved(&mut self, moves: &[(u32, u32)], half: u32, stamp: u32)
+        requires below { AreBelow half moves.now }
+        requires halves { half + half ≤ targets self.old }
+        requires fits { half + half < 2 ^ 32 }
         requires newer { self.old.newest < stamp }
         ensures arcs { self.new.arcs ≡ self.old.arcs }
         ensures into { self.new.into ≡ self.old.into }
         ensures room { self.new.room ≡ self.old.room }
-        ensures changed { self.new.changed ≡ changed_by moves.now stamp self.old.arcs self.old.changed }
+        ensures changed { self.new.changed ≡ changed_by moves.now stamp (map (seen half) self.old.arcs) self.old.changed }
         ensures newest { self.new.newest ≡ stamp }
     {
         let _ = self.lists.len();
-        stamp_slots(&mut self.slots, moves, stamp);
+        stamp_slots(&mut self.slots, moves, half, stamp);
         self.newest = stamp;
     }
 }

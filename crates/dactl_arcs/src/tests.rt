@@ -47,7 +47,7 @@ fn have_changed(pool: &ArcPool, first: u32, second: u32, third: u32) -> bool {
         && pool.changed(2) == third
 }
 
-// The owners of the arcs into a target, in the order of a walk.
+// The owners that wait for a target, in the order of a walk.
 fn owners_into(alloc: Global, pool: &ArcPool, target: u32) -> Result<Vec<u32>, AllocError>
     requires { target < targets pool.now }
     ensures { let owner = λ (arc : ℕ). (record_at pool.now.arcs arc).owner in
@@ -100,14 +100,27 @@ fn an_arc_changes_where_its_target_does(rt: HostRuntime) -> Result<(), Fail> {
     Ok(())
 }
 
+// Adds three arcs into one target, along two of which their owners wait.
+fn add_two_that_wait(pool: &mut ArcPool)
+    requires { targets pool.old ≡ 4 }
+    ensures targets { targets pool.new ≡ 4 }
+    ensures newest { pool.new.newest ≡ pool.old.newest }
+{
+    let _ = pool.add(0, 1, true);
+    let _ = pool.add(2, 1, false);
+    let _ = pool.add(3, 1, true);
+}
+
 #[test]
-fn a_walk_visits_the_arcs_into_a_target(rt: HostRuntime) -> Result<(), Fail> {
+fn a_walk_visits_the_arcs_that_wait(rt: HostRuntime) -> Result<(), Fail> {
     let mut pool = ArcPool::with_room(rt.alloc(), 4, 3)?;
-    assert!(rt; add_three(&mut pool));
+    add_two_that_wait(&mut pool);
     pool.redirect(&[(1, 3)], 1);
     let mut owners = owners_into(rt.alloc(), &pool, 3)?;
     owners.sort_unstable();
     assert_eq!(rt; owners.as_slice(), [0, 3].as_slice());
+    pool.clear_waits(3);
+    assert!(rt; pool.first_into(3).is_none());
     Ok(())
 }
 

@@ -9,7 +9,7 @@ use Rattle.std.proofs.lemmas.List.Elements.{recursion_from_All}
 use Rattle.std.proofs.lemmas.Map.Keys.{IsDistinct-tail}
 use Rattle.dactl_active.proofs.Numbers.{Lacks-from_distinct, has-lacking}
 use Rattle.dactl_arcs.specs.declared.lists.ArcRecord.{ArcRecord}
-use Rattle.dactl_arcs.specs.Pool.{IsWalk, has, target_of, arc_record}
+use Rattle.dactl_arcs.specs.Pool.{IsWalk, has, target_of, waits_along, arc_record}
 use Rattle.dactl_arcs.specs.Moves.{record_at}
 use Rattle.dactl_model.proofs.Counting.{count_by-cons}
 use Rattle.dactl_store.specs.declared.table.Span.{Span}
@@ -70,14 +70,14 @@ module _ where
       ]) in
       count_by-cons p x walk ∙ omega (arith, rest, one, both)
 
--- along a walk: how many of the arcs into the target pass
-pub count_walk : (arcs : List ArcRecord) (target : ℕ) (walk : List ℕ) → IsWalk arcs target walk → (p : ArcRecord → Bool) → count_by (λ i. p (record_at arcs i)) walk ≡ count_by (λ a. eqb a.target target && p a) arcs
+-- along a walk: how many of the arcs into the target along which their owners wait pass
+pub count_walk : (arcs : List ArcRecord) (target : ℕ) (walk : List ℕ) → IsWalk arcs target walk → (p : ArcRecord → Bool) → count_by (λ i. p (record_at arcs i)) walk ≡ count_by (λ a. (eqb a.target target && a.waits) && p a) arcs
 count_walk arcs target walk is p =
-    counted_walk (λ i. p (record_at arcs i)) walk arcs is.distinct (λ i there. ltb-true i (length arcs) (and_parts (ltb i (length arcs)) (eqb (target_of arcs i) target) (sym (is.members i) ∙ there)).0)
-    ∙ counted_list (λ i. has walk i && p (record_at arcs i)) (λ a. eqb a.target target && p a) (arc_record 0 0 false) 0 arcs (λ i j e below.
+    counted_walk (λ i. p (record_at arcs i)) walk arcs is.distinct (λ i there. ltb-true i (length arcs) (and_parts (ltb i (length arcs)) (eqb (target_of arcs i) target && waits_along arcs i) (sym (is.members i) ∙ there)).0)
+    ∙ counted_list (λ i. has walk i && p (record_at arcs i)) (λ a. (eqb a.target target && a.waits) && p a) (arc_record 0 0 false) 0 arcs (λ i j e below.
     let same : i ≡ j = omega arith in
-    let member : has walk i ≡ eqb (target_of arcs i) target = is.members i ∙ ap (λ b. b && eqb (target_of arcs i) target) (lt-ltb i (length arcs) (omega arith)) in
-    ap (λ b. b && p (record_at arcs i)) member ∙ ap (λ k. eqb (target_of arcs k) target && p (record_at arcs k)) same)
+    let member : has walk i ≡ (eqb (target_of arcs i) target && waits_along arcs i) = is.members i ∙ ap (λ b. b && (eqb (target_of arcs i) target && waits_along arcs i)) (lt-ltb i (length arcs) (omega arith)) in
+    ap (λ b. b && p (record_at arcs i)) member ∙ ap (λ k. (eqb (target_of arcs k) target && waits_along arcs k) && p (record_at arcs k)) same)
 
 count_none : {X : Type 0} (p : X → Bool) (xs : List X) → AllByRecursion (λ x. p x ≡ false) xs → count_by p xs ≡ 0
 count_none p [] none = refl

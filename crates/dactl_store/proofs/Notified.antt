@@ -22,7 +22,7 @@ use Rattle.dactl_store.specs.declared.table.NodeRecord.{NodeRecord}
 use Rattle.dactl_store.specs.Table.{Table, record_of, is_active}
 use Rattle.dactl_store.specs.Notifying.{HasOwners, notified, notified_along, wakes_owner, AreNotified, numbers, IsWokenList}
 use Rattle.dactl_store.proofs.Rings.{record_of-set, has_push}
-use Rattle.dactl_store.proofs.Counting.{count_walk}
+use Rattle.dactl_store.proofs.Counting.{count_same, count_walk}
 
 not_true : (b : Bool) → not b ≡ true → b ≡ false
 not_true true is = absurd (both_ways false refl is)
@@ -243,13 +243,20 @@ module _ (arcs : List ArcRecord) (walk rest behind : List ℕ) (i : ℕ) (found 
         room = room ∙ is.room;
       }
 
+once : (a b c : Bool) → ((a && b) && (b && c)) ≡ (a && (b && c))
+once true true c = refl
+once true false c = refl
+once false b c = refl
+
 pub notifying_ends : (arcs : List ArcRecord) (target : ℕ) (walk rest : List ℕ) (old now : Table) (list : List NodeId) → IsWalk arcs target walk → IsNotifying arcs walk old rest now list → rest ≡ [] → AreNotified arcs target old.records now.records
 notifying_ends arcs target walk rest old now list walks is none = record {
   long = is.long;
   each = λ m.
       sym (ap (λ w. notified (along arcs w m) (record_of now.records m)) none ∙ ap (λ mark. record (record_of now.records m) { mark = mark }) (noted_none (record_of now.records m).mark))
       ∙ is.each m
-      ∙ ap (λ c. notified c (record_of old.records m)) (count_walk arcs target walk walks (λ a. a.waits && eqb a.owner m));
+      ∙ ap (λ c. notified c (record_of old.records m))
+      (count_walk arcs target walk walks (λ a. a.waits && eqb a.owner m)
+      ∙ count_same (λ a. (eqb a.target target && a.waits) && (a.waits && eqb a.owner m)) (λ a. eqb a.target target && (a.waits && eqb a.owner m)) (λ a. once (eqb a.target target) a.waits (eqb a.owner m)) arcs);
 }
 
 pub woken_ends : (arcs : List ArcRecord) (walk rest : List ℕ) (old now : Table) (list : List NodeId) → IsNotifying arcs walk old rest now list → IsWokenList old.records now.records list

@@ -74,7 +74,8 @@ impl Store {
     /// more, and its owner waits for one fewer, or is active where it waits for none. `woken` gets the nodes
     /// that become active, in ascending order.
     ///
-    /// It takes time for the arcs into the node, and to sort the nodes that become active.
+    /// It takes time for the arcs along which others wait for the node, and to sort the nodes that become active.
+    /// Arcs into it along which nobody waits cost nothing.
     pub fn notify(&mut self, n: NodeId, woken: &mut Woken)
         requires node { HasNode self.old.graph n }
         requires room { length self.old.graph.nodes ≤ woken.old.room }

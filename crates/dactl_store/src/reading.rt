@@ -37,9 +37,11 @@ fn read_along(arcs: &ArcPool, node: NodeRecord) -> (Targets, u32)
     let mut version = node.version;
     for place in 0..node.span.count {
         let arc = node.span.first + place as u32;
-        let target = arcs.arc(arc).target;
-        version = version.max(arcs.changed(arc));
-        nodes[place as usize] = NodeId { number: target };
+        let (record, change) = arcs.arc_and_change(arc);
+        version = version.max(change);
+        nodes[place as usize] = NodeId {
+            number: record.target,
+        };
     }
     let targets = Targets {
         count: node.span.count,

@@ -22,8 +22,6 @@ mod compile_tests;
 #[cfg(test)]
 mod device_tests;
 #[cfg(test)]
-mod example_tests;
-#[cfg(test)]
 mod limit_tests;
 #[cfg(test)]
 mod refusal_tests;

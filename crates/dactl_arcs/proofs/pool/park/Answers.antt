@@ -1,4 +1,8 @@
-use Rattle.std.proofs.Common.{◌<◌, length, refl, sym, ◌∙◌, arith}
+use Rattle.std.proofs.Common.{◌<◌, ◌∷◌, [], ◌+◌, length, map, refl, sym, ap, ◌∙◌, arith}
+use Rattle.std.proofs.lemmas.List.{length-map, take_all}
+use Rattle.dactl_arcs.specs.Halves.{raised, shifted}
+use Rattle.dactl_arcs.specs.Moves.{parked, retargeted}
+use Rattle.dactl_arcs.proofs.Halves.{AreBelow-shifted, shifted_at}
 use Rattle.dactl_arcs.proofs.Moving.{parked_none, parks}
 use Rattle.dactl_arcs.proofs.pool.park.Goals as goal
 
@@ -8,10 +12,19 @@ loop-place-init c = (record { targets = refl; room = refl }, sym (parked_none c.
 pub loop-place-preserved : goal.loop-place-preserved
 loop-place-preserved c =
     let kept = c.loop-place.invariant.0 in
+    let moves = shifted c.args.shift c.args.moves.now in
+    let long = length-map c.args.moves.now (raised c.args.shift) in
     let inside : c.loop-place.place < length c.args.moves.now = omega arith in
-    let below = c.requires.below c.loop-place.place (0, 0) inside in (
+    let at = shifted_at c.args.shift c.loop-place.place c.args.moves.now inside in
+    let below = AreBelow-shifted c.args.shift c.args.spare c.args.moves.now c.requires.below in
+    let within : c.loop-place.place < length moves = omega (arith, long, inside) in (
       record { targets = c.merge.ensures.kept.targets ∙ kept.targets; room = c.merge.ensures.kept.room ∙ kept.room },
-      parks c.args.spare c.loop-place.place c.args.moves.now (0, 0) inside _ _ _ below.0 c.loop-place.invariant.1 c.merge.ensures.arcs,
+      parks c.args.spare c.loop-place.place moves (0, 0) within _ _ _ (below c.loop-place.place (0, 0) within).0 c.loop-place.invariant.1 (c.merge.ensures.arcs ∙ ap (λ p. map (retargeted ((p.0, c.args.spare + c.loop-place.place) ∷ [])) c.loop-place.lists.arcs) (sym at)),
       c.merge.ensures.changed ∙ c.loop-place.invariant.2,
       c.merge.ensures.newest ∙ c.loop-place.invariant.3,
     )
+
+pub returns-clause-arcs : goal.returns-clause-arcs
+returns-clause-arcs c =
+    let moves = shifted c.args.shift c.args.moves.now in
+    c.loop-place.invariant.1 ∙ ap (λ ms. map (parked c.args.spare ms) c.args.lists.now.arcs) (take_all c.loop-place.place moves (omega (arith, length-map c.args.moves.now (raised c.args.shift))))

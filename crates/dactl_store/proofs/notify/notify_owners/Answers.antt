@@ -1,4 +1,4 @@
-use Rattle.std.proofs.Common.{◌≡◌, ◌∷◌, ◌<◌, length, Some, ap, subst, ◌∙◌, arith}
+use Rattle.std.proofs.Common.{◌≡◌, ◌∷◌, ◌<◌, length, Some, refl, ap, subst, ◌∙◌, arith}
 use Rattle.std.specs.Option.{IfSome}
 use Rattle.dactl_arcs.specs.Pool.{LeadsTo, arcs_into, rest_of_walk}
 use Rattle.dactl_store.proofs.Notified.{owner_below, woken_room, wakes_passive, notifying_more, notifying_ends, woken_ends}
@@ -11,6 +11,11 @@ follow-requires-clause-room c = λ wakes.
     let owner : c.arc.result.owner < length c.loop-at.nodes.records = omega (arith, old_owner, is.long) in
     let room = woken_room _ _ _ c.args.nodes.now c.loop-at.nodes c.loop-at.woken.list c.arc.result.owner is owner (wakes_passive c.arc.result c.loop-at.nodes.records wakes) in
     omega (arith, room, is.long, c.loop-at.invariant.list_room, c.requires.room)
+
+pub next_into-at-requires : goal.next_into-at-requires
+next_into-at-requires c =
+    let here = rw c.in-Some.is at c.loop-at.invariant.leads in
+    (here.0, refl, here.2)
 
 pub loop-at-preserved : goal.loop-at-preserved
 loop-at-preserved c =

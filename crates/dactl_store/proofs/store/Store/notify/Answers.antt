@@ -36,7 +36,7 @@ invariant_of-self c =
     let s = c.self.inside in
     let idled : graph_of c.self.inside.nodes.records c.self.inside.arcs.arcs c.self.inside.root ≡ with_mark c.args.self.now.graph c.args.n Idle = ap (λ h. h.graph) (c.self.view_is ∙ c.set_mark.ensures) in
     IsStore-noted s.nodes s.arcs s.root s.room c.self.invariant c.notify_owners.new.nodes c.clear_waits.new.self c.args.n c.args.self.now.graph c.clear_waits.ensures.arcs c.notify_owners.ensures.notified idled
-    c.clear_waits.ensures.changed (ap length c.clear_waits.ensures.into) c.clear_waits.ensures.room c.notify_owners.ensures.room
+    c.clear_waits.ensures.changed c.clear_waits.ensures.kept.targets c.clear_waits.ensures.kept.room c.notify_owners.ensures.room
 
 pub returns-clause-graph : goal.returns-clause-graph
 returns-clause-graph c =
