@@ -3,7 +3,7 @@ use Rattle.std.proofs.Common.{◌≡◌, ◌≢◌, ℕ, zero, suc, ◌+◌, ◌
 use Rattle.std.specs.List.{slice_get}
 use Rattle.std.proofs.lemmas.Bool.{eqb-true, eqb-false, ltb-true, cases_Bool}
 use Rattle.std.proofs.lemmas.Bool.Decides.{nat_tests}
-use Rattle.std.proofs.lemmas.Option.{slice_get_past, slice_get_within, slice_get-get_or, none-some, same_Some}
+use Rattle.std.proofs.lemmas.Option.{slice_get_past, slice_get-get_or, none-some, same_Some}
 use Rattle.std.proofs.lemmas.List.{length-append}
 use Rattle.std.proofs.lemmas.List.Elements.{All-append, All-map}
 use Rattle.dactl_model.specs.declared.graph.NodeId.{NodeId}
@@ -129,29 +129,6 @@ pub latest_after : (version after : ℕ) (held : Held) → version ≤ after →
 latest_after version after held later latest = record {
   newer = omega (arith, latest.newer);
   most = λ k d below. let most = latest.most k d below in omega arith;
-}
-
--- a firing gives no version that is greater than its own, so the next entry's is the latest
-pub latest_next : (version : ℕ) (old new : Held) → IsLatest version old → IsVersioned version old new → new.newest ≡ version → IsLatest (version + 1) new
-latest_next version old new latest versioned given = record {
-  newer = omega (arith, given);
-  most = λ k d below.
-      let n : NodeId = record { number = k } in
-      let there : HasNode new.graph n = omega (arith, versioned.long) in
-      let at = slice_get-get_or new.versions k d below in
-      elim (cases_Bool (ltb version (get_or new.versions k d))) [
-        | inl above ↦
-            let greater = ltb-true version (get_or new.versions k d) above in
-            let kept = λ (e : content new.graph n ≡ content old.graph n).
-            let same : slice_get old.versions k ≡ Some (get_or new.versions k d) = sym (versioned.kept n there e) ∙ at in
-            let inside = slice_get_within old.versions k (get_or new.versions k d) same in
-            let least = latest.most k d inside in
-            let is : get_or old.versions k d ≡ get_or new.versions k d = same_Some _ _ (sym (slice_get-get_or old.versions k d inside) ∙ same) in
-            absurd (omega arith) in
-            let equal : get_or new.versions k d ≡ version = same_Some _ _ (sym at ∙ versioned.given n there kept) in
-            omega arith
-        | inr not_above ↦ grind (arith, nat_tests)
-      ];
 }
 
 -- a settled store has room for what the old one has

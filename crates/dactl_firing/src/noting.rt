@@ -13,7 +13,7 @@ use dactl_store::Store;
 /// The node gives up its activity and notifies those that wait for it. `woken` gets the nodes that become
 /// active, in ascending order. No node's version is changed.
 ///
-/// It takes time for the arcs into the node, and to sort the nodes that become active.
+/// It takes time for the arcs along which others wait for the node, and to sort the nodes that become active.
 pub fn note(store: &mut Store, node: NodeId, woken: &mut Woken)
     requires node { HasNode store.old.graph node }
     requires room { length store.old.graph.nodes ≤ woken.old.room }

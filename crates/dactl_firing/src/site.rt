@@ -39,6 +39,15 @@ impl Site<'_> {
         }
     }
 
+    // The nodes of a redirection.
+    fn pair(&self, first: u32, step: Move) -> (NodeId, NodeId)
+        requires { IsNamedMove first self.now.bindings.now step }
+        ensures { result ≡ pair_of first self.now.node self.now.bindings.now step }
+    {
+        let to = mentioned_node(first, self.bindings, step.to);
+        (self.left(step.from), to)
+    }
+
     // The nodes of the redirections, and behind them pairs of no account.
     fn pairs(&self, first: u32, moves: &[Move]) -> [(NodeId, NodeId); 65]
         requires few { length moves.now ≤ 65 }
@@ -48,8 +57,7 @@ impl Site<'_> {
         let nowhere = NodeId { number: 0 };
         let mut pairs = [(nowhere, nowhere); 65];
         for (place, step) in moves.iter().enumerate() {
-            let to = mentioned_node(first, self.bindings, step.to);
-            pairs[place] = (self.left(step.from), to);
+            pairs[place] = self.pair(first, *step);
         }
         pairs
     }
@@ -65,6 +73,10 @@ impl Site<'_> {
         ensures room { store.new.room ≡ store.old.room }
         ensures newest { store.new.newest ≡ self.now.entry }
     {
+        if moves.len() == 1 {
+            store.redirect(&[self.pair(first, moves[0])], self.entry);
+            return;
+        }
         let pairs = self.pairs(first, moves);
         store.redirect(&pairs[..moves.len()], self.entry);
     }

@@ -1,6 +1,6 @@
 use Rattle.std.proofs.Common.{◌≡◌, ℕ, ◌+◌, ◌≤◌, All, sym, subst, arith}
 use Rattle.std.proofs.lemmas.List.Elements.{All-weaker}
-use Rattle.dactl_firing.proofs.Ready.{latest_next}
+use Rattle.dactl_store.proofs.Latest.{latest_next}
 use Rattle.dactl_store.specs.Held.{Held}
 use Rattle.dactl_store.specs.Redirecting.{IsLatest}
 use Rattle.dactl_model.specs.declared.graph.Event.TheVariants.{Fire, Note}
@@ -33,7 +33,7 @@ returns-clause-formed c =
     keeps_well_formed c.args.program.now c.args.graph.now c.in_ok-after-in-Note.after (Note c.args.node) c.requires.program c.requires.formed (quiet, c.in_ok-after-in-Note.ensures)
 
 pub returns-in-Ok-clause-latest : goal.returns-in-Ok-clause-latest
-returns-in-Ok-clause-latest c = let fired = c.in-Ok.ensures.ok in latest_next c.args.entry _ _ c.requires.latest fired.versions fired.newest
+returns-in-Ok-clause-latest c = let fired = c.in-Ok.ensures.ok in latest_next c.args.entry _ _ fired.versions c.requires.latest fired.newest
 
 pub returns-clause-latest : goal.returns-clause-latest
 returns-clause-latest c = latest_more c.args.entry _ _ c.requires.latest c.note-in-Note.ensures.versions c.note-in-Note.ensures.newest
