@@ -7,3 +7,4 @@ pub mod Further
 pub mod Passing
 pub mod Marking
 pub mod Ordering
+pub mod Pushing

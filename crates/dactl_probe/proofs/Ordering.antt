@@ -1,8 +1,8 @@
 -- Orderly rules: no conflict, and their bindings.
-use Rattle.std.proofs.Common.{◌≡◌, ℕ, suc, ◌+◌, ◌<◌, ◌≤◌, Bool, true, false, not, ◌&&◌, ◌||◌, ◌==◌, if◌then◌else◌, List, [], ◌∷◌, ◌++◌, length, map, refl, sym, ◌∙◌, ap, subst, arith, Option, Some, None, slice_get}
+use Rattle.std.proofs.Common.{◌≡◌, ℕ, suc, zero, ◌+◌, ◌<◌, ◌≤◌, Bool, true, false, not, ◌&&◌, ◌||◌, ◌==◌, if◌then◌else◌, List, [], ◌∷◌, ◌++◌, length, map, refl, sym, ◌∙◌, ap, subst, arith, Option, Some, None, slice_get}
 use Rattle.std.specs.List.{list_all}
 use Rattle.std.specs.Option.{option_map}
-use Rattle.std.proofs.lemmas.Bool.{eqb-true}
+use Rattle.std.proofs.lemmas.Bool.{eqb-true, eq-eqb}
 use Rattle.std.proofs.lemmas.Option.{slice_get-map}
 use Rattle.dactl_model.specs.declared.graph.NodeId.{NodeId}
 use Rattle.dactl_model.specs.declared.reading.Reading.{Reading}
@@ -14,9 +14,11 @@ use Rattle.dactl_model.specs.declared.program.Pat.TheFolds.{fold-roll-Pat, map-P
 use Rattle.dactl_model.specs.declared.program.Rule.{Rule}
 use Rattle.dactl_model.specs.Patterns.{has_symbol, is_integer, has_integer, same_node}
 use Rattle.dactl_model.specs.Readings.{Value, No, Unknown, Yes, Told, least, opposite, told, told_level, told_label, told_all, told_symbol, told_symbol_at, reading_of, targets_of}
-use Rattle.dactl_model.specs.RuleTold.{no_conflict}
+use Rattle.dactl_model.specs.RuleTold.{no_conflict, pair_node, pair_nodes, bindings_told}
 use Rattle.dactl_model.proofs.Induction.{Each, pat_induction}
 use Rattle.dactl_model.proofs.Told.{told_roll}
+use Rattle.dactl_model.specs.Rooms.{Observed}
+use Rattle.dactl_probe.specs.Bindings.{nodes_of, with_nodes, HasRoomFor}
 use Rattle.dactl_decide.specs.Orders.{go_on, after_all, after_level, after, is_number, is_orderly}
 
 after_roll : (x : Pat-F Pat) (k : ℕ) → after (roll-Pat x) k ≡ after_level (map-Pat Pat (ℕ → Option ℕ) after x) k
@@ -199,9 +201,58 @@ module _ (rs : List Reading) where
   pub consistent : (n : NodeId) (rule : Rule) → is_orderly rule ≡ true → no_conflict (told rs rule.pattern n).pairs ≡ true
   consistent n rule is = different 0 rule.variables (told rs rule.pattern n).pairs ((ascending rule.pattern).rises 0 rule.variables n (ordered rule is))
 
+  pub counted : (n : NodeId) (rule : Rule) → is_orderly rule ≡ true → (told rs rule.pattern n).value ≡ Yes → Counts 0 rule.variables (told rs rule.pattern n).pairs
+  counted n rule is sure = (ascending rule.pattern).counts 0 rule.variables n (ordered rule is) sure
+
+-- the nodes of the variables are those of the pairs
+skip : (x : ℕ × NodeId) (xs : List (ℕ × NodeId)) (k count : ℕ) → x.0 < k → pair_nodes (x ∷ xs) k count ≡ pair_nodes xs k count
+skip x xs k zero less = refl
+skip x xs k (suc count) less =
+    let here : pair_node (x ∷ xs) k ≡ pair_node xs k = go (x.0 == k) refl in
+    let rest : pair_nodes (x ∷ xs) (k + 1) count ≡ pair_nodes xs (k + 1) count = skip x xs (k + 1) count (omega (arith, less)) in
+    rw (here, rest) refl
+  where
+    go : (b : Bool) → (x.0 == k) ≡ b → (if b then x.1 else pair_node xs k) ≡ pair_node xs k
+    go false e = refl
+    go true e = absurd (omega (arith, eqb-true x.0 k e, less))
+
+counted_nodes : (k count : ℕ) (xs : List (ℕ × NodeId)) → Counts k (k + count) xs → pair_nodes xs k count ≡ nodes_of xs
+counted_nodes k zero [] is = refl
+counted_nodes k zero (x ∷ xs) is = absurd (omega (arith, counts_grow (k + 1) (k + zero) xs is.1))
+counted_nodes k (suc count) [] is = absurd (omega (arith, is))
+counted_nodes k (suc count) (x ∷ xs) is =
+    let first : pair_node (x ∷ xs) k ≡ x.1 = ap (λ b. if b then x.1 else pair_node xs k) (eq-eqb x.0 k is.0) in
+    let end : k + suc count ≡ (k + 1) + count = omega arith in
+    let rest : pair_nodes xs (k + 1) count ≡ nodes_of xs = counted_nodes (k + 1) count xs (subst (λ m. Counts (k + 1) m xs) end is.1) in
+    rw (first, skip x xs (k + 1) count (omega (arith, is.0)), rest) refl
+
+from_zero : (rs : List Reading) (n : NodeId) (rule : Rule) → Counts 0 rule.variables (told rs rule.pattern n).pairs → Counts 0 (0 + rule.variables) (told rs rule.pattern n).pairs
+from_zero rs n rule is = let end : rule.variables ≡ 0 + rule.variables = omega arith in subst (λ m. Counts 0 m (told rs rule.pattern n).pairs) end is
+
+pub bindings_counted : (rs : List Reading) (n : NodeId) (rule : Rule) → is_orderly rule ≡ true → (told rs rule.pattern n).value ≡ Yes → bindings_told rs n rule ≡ nodes_of (told rs rule.pattern n).pairs
+bindings_counted rs n rule is sure = counted_nodes 0 rule.variables (told rs rule.pattern n).pairs (from_zero rs n rule (counted rs n rule is sure))
+
+counted_long : (k count : ℕ) (xs : List (ℕ × NodeId)) → Counts k (k + count) xs → length xs ≡ count
+counted_long k count [] is = omega (arith, is)
+counted_long k zero (x ∷ xs) is = absurd (omega (arith, counts_grow (k + 1) (k + zero) xs is.1))
+counted_long k (suc count) (x ∷ xs) is =
+    let end : k + suc count ≡ (k + 1) + count = omega arith in
+    ap suc (counted_long (k + 1) count xs (subst (λ m. Counts (k + 1) m xs) end is.1))
+
+-- a rule whose variables stand in order has as many pairs as variables
+pub pairs_long : (rs : List Reading) (n : NodeId) (rule : Rule) → is_orderly rule ≡ true → (told rs rule.pattern n).value ≡ Yes → length (told rs rule.pattern n).pairs ≡ rule.variables
+pairs_long rs n rule is sure = counted_long 0 rule.variables (told rs rule.pattern n).pairs (from_zero rs n rule (counted rs n rule is sure))
+
 -- what deciders say of a rule
 pub flag_of : (rules : List Rule) (r : ℕ) (rule : Rule) (flag : Bool) → slice_get (map is_orderly rules) r ≡ Some flag → slice_get rules r ≡ Some rule → flag ≡ true → is_orderly rule ≡ true
 flag_of rules r rule flag told is set =
     let mapped : Some flag ≡ Some (is_orderly rule) = sym told ∙ (slice_get-map is_orderly rules r ∙ ap (option_map is_orderly) is) in
     let same : flag ≡ is_orderly rule = cc in
     sym same ∙ set
+
+pub orderly_room : (f : Observed) (n : NodeId) (rule : Rule) → f.bindings ≡ [] → rule.variables ≤ 64 → is_orderly rule ≡ true → (told f.readings rule.pattern n).value ≡ Yes → HasRoomFor f (told f.readings rule.pattern n).pairs
+orderly_room f n rule empty few is sure = omega (arith, ap length empty, few, pairs_long f.readings n rule is sure)
+
+pub orderly_bindings : (f after : Observed) (n : NodeId) (rule : Rule) → f.bindings ≡ [] → is_orderly rule ≡ true → (told f.readings rule.pattern n).value ≡ Yes → after ≡ with_nodes f (told f.readings rule.pattern n).pairs → after ≡ record f { bindings = bindings_told f.readings n rule }
+orderly_bindings f after n rule empty is sure pushed =
+    pushed ∙ ap {A = List NodeId} {B = Observed} (λ bs. record f { bindings = bs }) (ap (λ bs. bs ++ nodes_of (told f.readings rule.pattern n).pairs) empty ∙ sym (bindings_counted f.readings n rule is sure))

@@ -22,7 +22,7 @@ use Rattle.dactl_model.specs.declared.program.Rule.{Rule}
 use Rattle.dactl_model.specs.declared.program.Program.{Program}
 use Rattle.dactl_model.specs.Patterns.{same_node}
 use Rattle.dactl_model.specs.Programs.{IsValid}
-use Rattle.dactl_model.specs.Readings.{reading_of, targets_of}
+use Rattle.dactl_model.specs.Readings.{reading_of, targets_of, told, Yes}
 use Rattle.dactl_model.specs.Rooms.{Observed}
 use Rattle.dactl_decide.specs.Paths.{is_root, tests, symbol_tests, same_path, IsNumberOf}
 use Rattle.dactl_decide.specs.Decisions.{Decisions, AreDecisions}
@@ -407,6 +407,13 @@ pub fire_within : (p : Program) (rs : List Reading) (n : NodeId) (v : Verdict) (
 fire_within p rs n v r decided is =
     let shown : IsVerdict p rs n (verdict.Fire r) = subst (IsVerdict p rs n) is decided in
     slice_get_within p.rules r shown.1.rule shown.1.is_rule
+
+-- and its pattern holds
+pub fire_yes : (p : Program) (rs : List Reading) (n : NodeId) (v : Verdict) (r : ℕ) (rule : Rule) → IsVerdict p rs n v → v ≡ verdict.Fire r → slice_get p.rules r ≡ Some rule → (told rs rule.pattern n).value ≡ Yes
+fire_yes p rs n v r rule decided is is_rule =
+    let shown : IsVerdict p rs n (verdict.Fire r) = subst (IsVerdict p rs n) is decided in
+    let same = same_rule p.rules r shown.1.rule rule shown.1.is_rule is_rule in
+    ap (λ x. (told rs x.pattern n).value) (sym same) ∙ shown.1.yes.pattern
 
 -- with its own bindings the attempt shows its event
 pub shows_fire : (p : Program) (before after : Observed) (n : NodeId) (v : Verdict) (r : ℕ) (rule : Rule) → IsVerdict p before.readings n v → v ≡ verdict.Fire r → slice_get p.rules r ≡ Some rule → after ≡ record before { bindings = bindings_told before.readings n rule } → ShowsFire p after.readings n r after.bindings

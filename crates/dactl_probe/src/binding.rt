@@ -4,9 +4,10 @@ ghost use Rattle.std.specs.List.{list_all};
 ghost use Rattle.dactl_model.specs.Patterns.{is_bound};
 ghost use Rattle.dactl_model.specs.Readings.{told, told_all};
 ghost use Rattle.dactl_model.specs.RuleTold.{no_conflict};
-ghost use Rattle.dactl_probe.specs.Bindings.{first_node, is_first};
+ghost use Rattle.dactl_probe.specs.Bindings.{first_node, is_first, HasRoomFor, with_nodes};
 
 use crate::reading::{has_shape, reading_of, targets_of};
+use dactl_model::footprint::Footprint;
 use dactl_model::graph::NodeId;
 use dactl_model::program::Pat;
 use dactl_model::reading::Reading;
@@ -127,4 +128,44 @@ pub fn has_no_conflict(readings: &[Reading], pattern: &Pat, node: NodeId) -> boo
     ensures { result ≡ no_conflict (told readings.now pattern.now node).pairs }
 {
     agrees(readings, pattern, node, pattern, node)
+}
+
+/// Puts the nodes of the pattern's binders into the footprint, in order, as far as the readings
+/// tell.
+#[cycle(push)]
+pub fn push_bound(footprint: &mut Footprint, pattern: &Pat, node: NodeId)
+    requires { HasRoomFor footprint.old (told footprint.old.readings pattern.now node).pairs }
+    ensures { footprint.new ≡ with_nodes footprint.old (told footprint.old.readings pattern.now node).pairs }
+{
+    match pattern {
+        Pat::Any | Pat::Int | Pat::Literal(_) | Pat::Union { .. } => {}
+        Pat::Sym { symbol, args } => {
+            let Some(reading) = reading_of(footprint.readings(), node) else {
+                return;
+            };
+            let reading = *reading;
+            if has_shape(&reading, *symbol, args.len()) {
+                push_each_bound(footprint, args.as_slice(), targets_of(&reading));
+            }
+        }
+        Pat::Bind { inner, .. } => {
+            footprint.push_binding(node);
+            push_bound(footprint, inner.get(), node);
+        }
+        Pat::Less { left, .. } => push_bound(footprint, left.get(), node),
+    }
+}
+
+/// The same for the patterns, each at the target at its place.
+#[cycle(push)]
+fn push_each_bound(footprint: &mut Footprint, patterns: &[Pat], targets: &[NodeId])
+    requires { HasRoomFor footprint.old (told_all (map (told footprint.old.readings) patterns.now) targets.now).pairs }
+    ensures { footprint.new ≡ with_nodes footprint.old (told_all (map (told footprint.old.readings) patterns.now) targets.now).pairs }
+{
+    for (place, pattern) in patterns.iter().enumerate() {
+        if place >= targets.len() {
+            return;
+        }
+        push_bound(footprint, pattern, targets[place]);
+    }
 }

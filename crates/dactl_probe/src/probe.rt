@@ -1,9 +1,12 @@
 //! The probe of a node.
-ghost use Rattle.std.specs.Prelude.{◌≡◌, ◌≤◌, ◌∷◌, ◌++◌, [], Some, slice_get};
+ghost use Rattle.std.specs.Prelude.{◌≡◌, ◌≤◌, ◌∷◌, ◌++◌, [], true};
 ghost use Rattle.dactl_model.specs.Acts.{node_of_event};
+ghost use Rattle.dactl_model.specs.Readings.{Yes, told};
 ghost use Rattle.dactl_model.specs.RuleTold.{bindings_told, Shows};
+ghost use Rattle.dactl_decide.specs.Orders.{is_orderly};
 ghost use Rattle.dactl_probe.specs.Probing.{Probing, IsProbing};
 
+use crate::binding::push_bound;
 use crate::lost::Lost;
 use crate::rule::bound;
 use crate::verdict::{Verdict, judge, rule_of};
@@ -49,8 +52,8 @@ impl<'a> Model for Probe<'a> {
     ghost invariant = { λ p. IsSound p.deciders.now p.node p.footprint p.verdict p.lost };
 }
 
-/// Puts the nodes of the rule's variables into the footprint.
-fn push_bindings(footprint: &mut Footprint, rule: &Rule, node: NodeId)
+/// Puts the nodes of the rule's variables into the footprint, one variable after another.
+fn push_by_variable(footprint: &mut Footprint, rule: &Rule, node: NodeId)
     requires empty { footprint.old.bindings ≡ [] }
     requires few { rule.now.variables ≤ 64 }
     ensures { footprint.new ≡ record footprint.old { bindings = bindings_told footprint.old.readings node rule.now } }
@@ -58,6 +61,22 @@ fn push_bindings(footprint: &mut Footprint, rule: &Rule, node: NodeId)
     for variable in 0..rule.variables {
         let found = bound(footprint.readings(), rule, node, variable);
         footprint.push_binding(found);
+    }
+}
+
+/// Puts the nodes of the variables of a rule that matches into the footprint. Where each variable
+/// has one binder, and these stand in order, one walk over the pattern suffices.
+fn push_bindings(footprint: &mut Footprint, rule: &Rule, orderly: bool, node: NodeId)
+    requires empty { footprint.old.bindings ≡ [] }
+    requires few { rule.now.variables ≤ 64 }
+    requires orderly { orderly ≡ true → is_orderly rule.now ≡ true }
+    requires yes { (told footprint.old.readings rule.now.pattern node).value ≡ Yes }
+    ensures { footprint.new ≡ record footprint.old { bindings = bindings_told footprint.old.readings node rule.now } }
+{
+    if orderly {
+        push_bound(footprint, &rule.pattern, node);
+    } else {
+        push_by_variable(footprint, rule, node);
     }
 }
 
@@ -128,7 +147,13 @@ impl<'a> Probe<'a> {
         } = self;
         match verdict {
             Verdict::Fire(rule) => {
-                push_bindings(&mut footprint, rule_of(deciders.program(), rule), node);
+                let orderly = deciders.is_orderly(rule);
+                push_bindings(
+                    &mut footprint,
+                    rule_of(deciders.program(), rule),
+                    orderly,
+                    node,
+                );
                 let event = Event::Fire { node, rule };
                 Attempt { event, footprint }
             }
