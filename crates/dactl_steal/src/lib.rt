@@ -1,0 +1,13 @@
+//! A board on which each worker has a deque of its own, and steals from the others where that is
+//! empty.
+#![tactic(auto)]
+
+mod board;
+mod other;
+mod own;
+mod roll;
+mod rule;
+mod stealing;
+
+pub use board::{Memory, StealBoard, StealHand};
+pub use roll::Member;
