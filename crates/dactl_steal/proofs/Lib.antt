@@ -1,5 +1,10 @@
 pub mod Sums
 pub mod Deques
 pub mod Members
-pub mod Owns
 pub mod Others
+pub mod Owns
+pub mod Shares
+pub mod Boards
+pub mod Gathers
+pub mod Starts
+pub mod Ends

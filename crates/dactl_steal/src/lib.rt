@@ -3,11 +3,16 @@
 #![tactic(auto)]
 
 mod board;
+mod closing;
+mod making;
 mod other;
 mod own;
 mod roll;
 mod rule;
+mod sharing;
 mod stealing;
+#[cfg(test)]
+mod tests;
 
 pub use board::{Memory, StealBoard, StealHand};
 pub use roll::Member;

@@ -1,6 +1,6 @@
 //! Taking nodes from the deques of other hands.
 
-ghost use Rattle.std.specs.Prelude.{◌≡◌, ℕ, ◌+◌, List, MatchOption};
+ghost use Rattle.std.specs.Prelude.{◌≡◌, ℕ, ◌+◌, List, MatchOption, length};
 ghost use Rattle.dactl_model.specs.declared.graph.NodeId.{NodeId};
 ghost use Rattle.dactl_steal.specs.Others.{IsUsableSlot, AreUsable, SlotKept, AreKept, SlotWasEmpty, WereEmpty, slot_stolen, stolen};
 
@@ -27,6 +27,7 @@ fn rob_at<R: Wait>(rt: &R, place: &mut Option<Other>) -> Option<NodeId>
 /// A node of the first of the others' deques that has one, in the order of the hands.
 pub(crate) fn steal<R: Wait>(rt: &R, others: &mut [Option<Other>]) -> Option<NodeId>
     requires { AreUsable others.old }
+    ensures long { length others.new ≡ length others.old }
     ensures kept { AreKept others.old others.new }
     ensures taken { MatchOption result
         (WereEmpty others.new
