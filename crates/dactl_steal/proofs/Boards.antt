@@ -50,7 +50,6 @@ once number first (suc count) = ⊎_elim (λ (e : number ≡ first). let i = sub
     (λ (n : number ≢ first). let z = is_other number first (λ e. n (sym e)) in omega (arith, once number (suc first) count)) (same_or_not number first)
 
 once_of_all : (number : ℕ) → times number everyone ≤ 1
-unfolding everyone
 once_of_all number = once number 0 256
 
 -- a number that a member got does not stand at it twice

@@ -29,7 +29,6 @@ all_length first zero = refl
 all_length first (suc count) = omega (arith, all_length (suc first) count)
 
 everyone_length : length everyone ≡ 256
-unfolding everyone
 everyone_length = all_length 0 256
 
 stands_once : (number first count : ℕ) → first ≤ number → number < first + count → times number (numbers_from first count) ≡ 1
@@ -38,7 +37,6 @@ stands_once number first (suc count) low high = ⊎_elim (λ (e : number ≡ fir
     (λ (n : number ≢ first). let z = is_other number first (λ e. n (sym e)) in let r = stands_once number (suc first) count (omega (arith, n)) (omega arith) in omega arith) (same_or_not number first)
 
 all_once : (number : ℕ) → number < 256 → times number everyone ≡ 1
-unfolding everyone
 all_once number less = stands_once number 0 256 (omega arith) less
 
 none_more : (rest : List ℕ) → length rest ≡ 0 → (w : ℕ → ℕ) → added w rest ≡ 0

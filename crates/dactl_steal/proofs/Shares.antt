@@ -189,7 +189,7 @@ pub record RowState (number place : ℕ) (olds news : List StealHand) (row : Lis
   pub fits : (j : ℕ) (slot : Option Other) → get_elem? row j ≡ some slot → SlotFits number (map own_deque olds) j slot
   pub none : (weight : NodeId → ℕ) → stolen weight row ≡ 0
 
-no_slots : {X : Type 0} (j : ℕ) (slot : X) → get_elem? ([] {A = X}) j ≡ some slot → ⊥
+no_slots : {X : Type 0} (j : ℕ) (slot : X) → get_elem? {A = X} [] j ≡ some slot → ⊥
 no_slots j slot e = some-ne-none slot (sym e)
 
 pub state_starts : (number : ℕ) (hands : List StealHand) (row : List (Option Other)) → row ≡ [] → RowState number 0 hands hands row

@@ -29,7 +29,6 @@ pub next_number : (number : ℕ) → number < 256 → numbers_from number (256 -
 next_number number less = ap (numbers_from number) (let q : 256 - number ≡ suc (255 - number) = omega arith in q) ∙ ap (λ (n : ℕ). number ∷ numbers_from n (255 - number)) (let q : suc number ≡ number + 1 = omega arith in q)
 
 pub everyone_from : everyone ≡ numbers_from 0 256
-unfolding everyone
 everyone_from = refl
 
 read_there : {X : Type 0} (xs : List X) (i : ℕ) (x d : X) → get_elem? xs i ≡ some x → x ≡ slice_index_or xs i d
@@ -79,8 +78,8 @@ module _ (b : StealBoard) (olds news : List StealHand) (some_hand : 0 < length o
 
 pub take_next : {X : Type 0} (xs : List X) (i : ℕ) (x : X) → get_elem? xs i ≡ some x → take (i + 1) xs ≡ take i xs ++ x ∷ []
 take_next [] i x e = absurd (some-ne-none x (sym e))
-take_next (y ∷ ys) zero x e = ap (λ (z : X). z ∷ []) (some-injective y x e)
-take_next (y ∷ ys) (suc i) x e = ap (λ (l : List X). y ∷ l) (take_next ys i x e)
+take_next {X = X} (y ∷ ys) zero x e = ap (λ (z : X). z ∷ []) (some-injective y x e)
+take_next {X = X} (y ∷ ys) (suc i) x e = ap (λ (l : List X). y ∷ l) (take_next ys i x e)
 
 below_there : {X : Type 0} (xs : List X) (i : ℕ) (x : X) → get_elem? xs i ≡ some x → i < length xs
 below_there [] i x e = absurd (some-ne-none x (sym e))

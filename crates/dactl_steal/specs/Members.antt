@@ -12,7 +12,7 @@ abbrev pub numbers_from : ℕ → ℕ → List ℕ
 numbers_from number zero = []
 numbers_from number (suc count) = number ∷ numbers_from (suc number) count
 
-pub everyone : List ℕ
+abbrev pub everyone : List ℕ
 everyone = numbers_from 0 256
 
 pub record IsRoll (items : List NodeId) (members : List Member) : Type 0 where
