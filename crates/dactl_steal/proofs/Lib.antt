@@ -7,4 +7,5 @@ pub mod Shares
 pub mod Boards
 pub mod Gathers
 pub mod Starts
+pub mod Pops
 pub mod Ends

@@ -111,7 +111,7 @@ sharing_starts hands place k e = (
   },
 )
 
-past_or_before : (a b : ℕ) → (a < b) ⊎ (b ≤ a)
+pub past_or_before : (a b : ℕ) → (a < b) ⊎ (b ≤ a)
 past_or_before zero zero = inr (omega arith)
 past_or_before zero (suc b) = inl (omega arith)
 past_or_before (suc a) zero = inr (omega arith)
@@ -189,7 +189,7 @@ pub record RowState (number place : ℕ) (olds news : List StealHand) (row : Lis
   pub fits : (j : ℕ) (slot : Option Other) → get_elem? row j ≡ some slot → SlotFits number (map own_deque olds) j slot
   pub none : (weight : NodeId → ℕ) → stolen weight row ≡ 0
 
-no_slots : {X : Type 0} (j : ℕ) (slot : X) → get_elem? {A = X} [] j ≡ some slot → ⊥
+pub no_slots : {X : Type 0} (j : ℕ) (slot : X) → get_elem? {A = X} [] j ≡ some slot → ⊥
 no_slots j slot e = some-ne-none slot (sym e)
 
 pub state_starts : (number : ℕ) (hands : List StealHand) (row : List (Option Other)) → row ≡ [] → RowState number 0 hands hands row
@@ -223,6 +223,10 @@ state_other number place olds news row next k w o so at other same deque lent us
           (subst (λ (n : ℕ). SlotFits number (map own_deque olds) n (Some o)) (sym so.count) (other, there, usable)));
       none = λ h. let n = so.none h in let l = ap (stolen h) is in let t = ap (weigh h) none in omega (arith, added_snoc (slot_stolen h) row (Some o));
     }
+
+-- a hand that has not lent yet in this row can
+pub state_lends : (number place : ℕ) (olds news : List StealHand) (row : List (Option Other)) (k : StealHand) → AreLenders olds → RowState number place olds news row → get_elem? news place ≡ some k → CanLend k.own
+state_lends number place olds news row k all so at = let s = so.lent place k at in subst (λ (x : StealHand). CanLend x.own) (sym (s.3 (omega arith))) (all place s.0 s.1)
 
 -- a row with all places
 pub row_done : (number place : ℕ) (olds news : List StealHand) (row : List (Option Other)) → RowState number place olds news row → length olds ≤ place → place ≤ length olds → OthersFit number (map own_deque olds) row

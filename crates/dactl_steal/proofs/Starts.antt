@@ -1,10 +1,12 @@
 -- What is so of a board and its hands when they are made.
-use Rattle.std.proofs.Common.{◌≡◌, ℕ, zero, suc, ◌+◌, ◌-◌, ◌<◌, ◌≤◌, All, List, [], ◌∷◌, ◌++◌, length, map, replicate, get_or, slice_index_or, sym, refl, ap, ◌∙◌, subst, ⊎_elim, ◌⊎◌, Option, Some, None, take, drop, arith}
+use Rattle.std.proofs.Common.{◌≡◌, ℕ, zero, suc, ◌+◌, ◌-◌, ◌<◌, ◌≤◌, All, List, [], ◌∷◌, ◌++◌, length, map, replicate, get_or, slice_index_or, sym, refl, ap, ◌∙◌, subst, ⊎_elim, ◌⊎◌, Option, Some, None, arith}
 use Rattle.std.proofs.lemmas.List.{length-map}
 use mathlib.Core.Option.{some, some-injective, some-ne-none}
 use lib.ListN.{get_elem?}
 use Rattle.crossbeam_deque.specs.Handles.{stealer_deque}
 use Rattle.crossbeam_queue.specs.Passes.{Pass, view, IsPassOf}
+use Rattle.crossbeam_queue.specs.declared.array_queue.Slotted.{Slotted}
+use Rattle.crossbeam_queue.specs.declared.array_queue.Doing.{Doing}
 use Rattle.crossbeam_queue.proofs.Lists.{at_map}
 use Rattle.dactl_model.specs.declared.graph.NodeId.{NodeId}
 use Rattle.dactl_queue.specs.declared.rule.Account.{Account}
@@ -20,6 +22,7 @@ use Rattle.dactl_steal.specs.declared.board.StealHand.{StealHand}
 use Rattle.dactl_steal.specs.declared.own.Own.{Own}
 use Rattle.dactl_steal.specs.declared.roll.Member.{Member}
 use Rattle.dactl_steal.proofs.Boards.{at_there, none_from}
+use Rattle.dactl_steal.proofs.Shares.{at_end, no_slots}
 
 abbrev Badge : Type 0
 Badge = Pass NodeId Member
@@ -30,6 +33,24 @@ next_number number less = ap (numbers_from number) (let q : 256 - number ≡ suc
 
 pub everyone_from : everyone ≡ numbers_from 0 256
 everyone_from = refl
+
+abbrev Seats : Type 0 → Type 0 → Type 0
+Seats Q A = Slotted (Option NodeId) (Doing NodeId Member) Q A
+
+pub none_seated : {Q A : Type 0} (roll : Seats Q A) (room : ℕ) (hands : List StealHand) → hands ≡ [] → AreSeated roll room hands
+none_seated roll room hands is place h e = absurd (no_slots place h (subst (λ (l : List StealHand). get_elem? l place ≡ some h) is e))
+
+-- one hand more, at the next place
+pub one_seated : {Q A : Type 0} (roll : Seats Q A) (room place : ℕ) (hands news : List StealHand) (h : StealHand) → AreSeated roll room hands → length hands ≡ place → IsSeated roll place h → IsNewOwn room 0 h.own → news ≡ hands ++ h ∷ []
+    → AreSeated roll room news
+one_seated roll room place hands news h all long seat own is at k e = ⊎_elim
+    (λ (t : get_elem? hands at ≡ some k). all at k t)
+    (λ (t : (at ≡ length hands) × (h ≡ k)). subst (λ (x : ℕ × StealHand). IsSeated roll x.0 x.1 × IsNewOwn room 0 x.1.own) (λ i. (sym (t.0 ∙ long) i, t.1 i)) (seat, own))
+    (at_end hands h k at (subst (λ (l : List StealHand). get_elem? l at ≡ some k) is e))
+
+-- while the hands are seated no part is out
+pub seated_unshared : {Q A : Type 0} (roll : Seats Q A) (room : ℕ) (hands slice : List StealHand) → AreSeated roll room hands → slice ≡ hands → AreUnshared room slice
+seated_unshared roll room hands slice all is place h e = (all place h (subst (λ (l : List StealHand). get_elem? l place ≡ some h) is e)).1
 
 read_there : {X : Type 0} (xs : List X) (i : ℕ) (x d : X) → get_elem? xs i ≡ some x → x ≡ slice_index_or xs i d
 read_there [] i x d e = absurd (some-ne-none x (sym e))
@@ -76,10 +97,14 @@ module _ (b : StealBoard) (olds news : List StealHand) (some_hand : 0 < length o
         back,
       )
 
-pub take_next : {X : Type 0} (xs : List X) (i : ℕ) (x : X) → get_elem? xs i ≡ some x → take (i + 1) xs ≡ take i xs ++ x ∷ []
-take_next [] i x e = absurd (some-ne-none x (sym e))
-take_next {X = X} (y ∷ ys) zero x e = ap (λ (z : X). z ∷ []) (some-injective y x e)
-take_next {X = X} (y ∷ ys) (suc i) x e = ap (λ (l : List X). y ∷ l) (take_next ys i x e)
+pub same_count : {X : Type 0} (f : X → DequeId) (xs : List X) (slice hands : List StealHand) → map f xs ≡ map own_deque slice → slice ≡ hands → length xs ≡ length hands
+same_count f xs slice hands is there = sym (length-map xs f) ∙ (ap length is ∙ (length-map slice own_deque ∙ ap length there))
+
+-- all hands of a board that is made
+pub all_fresh : (b : StealBoard) (olds slice news now : List StealHand) → 0 < length olds → length olds ≤ 255 → deques_of b ≡ map own_deque olds → AreSeated b.roll b.room olds → AreShared b.room slice news → slice ≡ olds → now ≡ news
+    → All (IsFresh b) now
+all_fresh b olds slice news now some_hand few deques seated shared there written = all_there (IsFresh b) now
+    (subst (λ (l : List StealHand). (place : ℕ) (k : StealHand) → get_elem? l place ≡ some k → IsFresh b k) (sym written) (fresh_each b olds news some_hand few deques seated (subst (λ (l : List StealHand). AreShared b.room l news) there shared)))
 
 below_there : {X : Type 0} (xs : List X) (i : ℕ) (x : X) → get_elem? xs i ≡ some x → i < length xs
 below_there [] i x e = absurd (some-ne-none x (sym e))
