@@ -9,3 +9,4 @@ pub mod Gathers
 pub mod Starts
 pub mod Pops
 pub mod Ends
+pub mod Crossing

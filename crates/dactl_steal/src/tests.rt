@@ -1,7 +1,7 @@
 //! A node that one hand puts, and another takes.
 
-ghost use Rattle.std.specs.Prelude.{◌≡◌, ◌+◌, ◌^◌, ◌-◌, ◌<◌, All, vec_len};
-ghost use Rattle.dactl_steal.specs.Boards.{HandFits, IsFresh, back_of};
+ghost use Rattle.std.specs.Prelude.{◌≡◌, ◌+◌, ◌^◌, ◌-◌, ◌<◌, ◌≤◌, All, length, vec_len};
+ghost use Rattle.dactl_steal.specs.Boards.{HandFits, IsFresh, back_of, put_of};
 
 use crate::{StealBoard, StealHand};
 use dactl_model::graph::NodeId;
@@ -26,15 +26,21 @@ fn next_hand(board: &StealBoard, hands: &mut Vec<StealHand>) -> StealHand
 fn offers<R: Wait>(rt: &R, board: &StealBoard, hand: &mut StealHand, number: u32) -> bool
     requires hand { HandFits board.now hand.old }
     requires backs { back_of hand.old < 2 ^ 64 - 1 }
-    ensures { HandFits board.now hand.new }
+    ensures hand { HandFits board.now hand.new }
+    ensures put { length (put_of hand.new) ≤ length (put_of hand.old) + 1 }
+    ensures back { back_of hand.new ≤ back_of hand.old + 1 }
 {
-    board.offer(rt, hand, NodeId { number }).is_ok()
+    match board.offer(rt, hand, NodeId { number }) {
+        Ok(()) => true,
+        Err(_) => false,
+    }
 }
 
 /// Whether the hand got this node, or none.
 fn takes<R: Wait>(rt: &R, board: &StealBoard, hand: &mut StealHand, number: Option<u32>) -> bool
     requires { HandFits board.now hand.old }
     ensures hand { HandFits board.now hand.new }
+    ensures put { put_of hand.new ≡ put_of hand.old }
     ensures back { back_of hand.new ≡ back_of hand.old }
 {
     board.take(rt, hand).map(|node| node.number) == number
