@@ -1,4 +1,4 @@
--- The board may be lent to other threads, and its hands may go there.
+-- The board may be lent to other threads.
 use denote.RattleType.{RattleType}
 use denote.Param.Send.{IsSend, IsSync, Frees, sendable, part_keyless, recorded_sync, struct_sync}
 use denote.Struct.Struct.{Struct}
@@ -21,13 +21,11 @@ use Rattle.dactl_steal.specs.contracts.rule.EvenProtocolNodeIdAccount.TheImpl as
 use Rattle.std.specs.contracts.alloc.Global as Global
 use Rattle.std.specs.contracts.impls.GlobalAllocator.TheImpl as allocator
 use Rattle.dactl_steal.specs.contracts.board.StealBoard as boards
-use Rattle.dactl_steal.specs.contracts.board.StealHand as hands
 use Rattle.dactl_steal.specs.contracts.other.Other as others
 use Rattle.dactl_steal.specs.contracts.own.Own as owns
 use Rattle.dactl_steal.specs.contracts.roll.Enrolled as Enrolled
 use Rattle.dactl_steal.specs.contracts.roll.EnrolledProtocolNodeIdMember.TheImpl as enrolled
 use Rattle.dactl_steal.specs.contracts.roll.Member as Member
-use Rattle.dactl_steal.proofs.board.StealHand.TheSendSync as hand
 use Rattle.std.specs.contracts.option.Option as Option
 use Rattle.std.proofs.Crossing.{crosses, frees, Vec-sync}
 use Rattle.std.proofs.alloc.Global.TheSendSync as heap
@@ -41,9 +39,6 @@ part_sync S V A g s a f = record { shared = λ d b o κ q. part_keyless (parts.t
 
 node_send : IsSend (Option.the_row NodeId.the_row)
 node_send = search sendable depth 20
-
-pub hand_send : IsSend hands.the_row
-hand_send = hand.the_send
 
 part_heap_sync : (S V : RattleType) → IsSend S → IsSync (parts.the_row S V Global.the_row allocator.ghosts)
 part_heap_sync S V s = part_sync S V _ _ s heap.the_send frees
