@@ -1,0 +1,12 @@
+pub mod Sums
+pub mod Deques
+pub mod Members
+pub mod Others
+pub mod Owns
+pub mod Shares
+pub mod Boards
+pub mod Gathers
+pub mod Starts
+pub mod Pops
+pub mod Ends
+pub mod Crossing
