@@ -3,7 +3,7 @@ import re
 import shutil
 import subprocess
 
-LINE = re.compile(r"^@(\d+) (\*|#*)([A-Za-z0-9_-]+)(?:\[([^\]]*)\])?$")
+LINE = re.compile(r"^@(\d+) (\*|#*)('[ -~]'|[A-Za-z0-9_-]+)(?:\[([^\]]*)\])?$")
 
 
 def nodes_of(lines):
@@ -29,7 +29,8 @@ def dot_of(nodes, title):
         border = 2 if into.get(number, 0) > 1 else 1
         width = 3 if number == 1 else 1
         look = f"fillcolor={colour} peripheries={border} penwidth={width}"
-        yield f'  n{number} [label="{mark}{label}" tooltip="@{number}" {look}];'
+        shown = label.replace("\\", r"\\").replace('"', r'\"')
+        yield f'  n{number} [label="{mark}{shown}" tooltip="@{number}" {look}];'
     for number, _, _, arguments in nodes:
         for at, (waits, target) in enumerate(arguments, 1):
             text = ("^" if waits else "") + (str(at) if len(arguments) > 1 else "")

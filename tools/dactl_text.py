@@ -5,7 +5,8 @@ import re
 TOKEN = re.compile(
     r"(?P<blank>[ \t\r\n]+|\{[^}]*\})"
     r"|(?P<upper>[A-Z][A-Za-z0-9_]*)|(?P<lower>[a-z][A-Za-z0-9_]*)|(?P<integer>-?[0-9]+)"
-    r"|(?P<sign>:=|=>|->|[\[\]();,|:=*#^+-])")
+    r"|(?P<sign>:=|=>|->|[\[\]();,|:=*#^+-])|(?P<character>'[ -~]')")
+HEADER = "DACTL 2;"
 RESERVED = set("MODULE ENDMODULE IMPORTS SYMBOL PATTERN RULE INITIAL PUBLIC REWRITABLE OVERWRITABLE CREATABLE ANY INT".split())
 ARITHMETIC = ["IAdd", "ISub", "IMul", "IEq", "ILt"]
 
@@ -20,13 +21,13 @@ class Token:
 
 
 class Pattern:
-    """kind is any, int, integer, symbol, binder, + or -; parts are what stands below it."""
+    """kind is any, int, char, integer, character, symbol, binder, + or -; parts are what stands below it."""
     def __init__(self, kind, name=None, parts=()):
         self.kind, self.name, self.parts = kind, name, list(parts)
 
 
 class Term:
-    """A new node (symbol or integer is given) or a mention (only name is given)."""
+    """A new node (symbol, integer or character is given) or a mention (only name is given)."""
     def __init__(self, place, star, hashes, name, label, arguments):
         self.place, self.star, self.hashes, self.name = place, star, hashes, name
         self.label, self.arguments = label, arguments
@@ -129,7 +130,7 @@ class Text:
             self.rules.append(self.rule())
             if self.take().text == ";":
                 token = self.peek()
-                if token.kind in ("reserved", "end") and token.text not in ("ANY", "INT"):
+                if token.kind in ("reserved", "end") and token.text not in ("ANY", "INT", "CHAR"):
                     return
 
     def rule(self):
@@ -155,10 +156,10 @@ class Text:
 
     def base(self):
         token = self.take()
-        if token.text in ("ANY", "INT"):
+        if token.kind == "reserved" and token.text in ("ANY", "INT", "CHAR"):
             return Pattern(token.text.lower())
-        if token.kind == "integer":
-            return Pattern("integer")
+        if token.kind in ("integer", "character"):
+            return Pattern(token.kind)
         if token.text == "(":
             inner = self.pattern()
             self.take(")")
@@ -189,7 +190,7 @@ class Text:
             if not self.has(":"):
                 return Term(place, star, hashes, name, None, [])
         token = self.take()
-        if token.kind not in ("integer", "upper"):
+        if token.kind not in ("integer", "character", "upper"):
             raise NoProgram(token.place)
         arguments = []
         if token.kind == "upper" and self.has("["):
@@ -201,14 +202,16 @@ class Text:
 
 
 def tokens(text):
-    at = 0
+    wide = text.startswith(HEADER)
+    reserved = RESERVED | {"CHAR"} if wide else RESERVED
+    at = len(HEADER) if wide else 0
     while at < len(text):
         found = TOKEN.match(text, at)
-        if not found:
+        if not found or (found.lastgroup == "character" and not wide):
             raise NoProgram(at)
         kind = found.lastgroup
         if kind != "blank":
-            yield Token("reserved" if found[0] in RESERVED else kind, found[0], at)
+            yield Token("reserved" if found[0] in reserved else kind, found[0], at)
         at = found.end()
     yield Token("end", "", at)
 

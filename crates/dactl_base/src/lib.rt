@@ -5,6 +5,7 @@
 pub mod adapters;
 pub mod digits;
 pub mod memory;
+pub mod parts;
 pub mod refusal;
 pub mod sink;
 pub mod source;

@@ -15,7 +15,8 @@ pub struct Place {
     pub byte: u32,
 }
 
-/// The kinds of fault that a text can have, in the order in which they count at one place.
+/// The kinds of fault that a text can have, in the order in which they count at one place. The last
+/// two are faults of equations alone.
 #[derive(Clone, Copy, Debug, PartialEq, Eq)]
 pub enum Kind {
     BadByte,
@@ -41,6 +42,8 @@ pub enum Kind {
     NotCreatable,
     MarkOnBound,
     TooManyWaits,
+    NotAConstructor,
+    WrongArity,
 }
 
 /// A fault of a text, with its place.

@@ -1,6 +1,7 @@
 use crate::adapters::{ReaderSource, WriterSink};
 use crate::digits::Digits;
 use crate::memory::{MemorySink, MemorySource, NullSink, SteadySource};
+use crate::parts::{Parts, split_parts};
 use crate::sink::{Sink, write_all};
 use crate::source::{Failed, Source};
 use std::alloc::AllocError;
@@ -72,4 +73,18 @@ fn digits_are_decimal(rt: HostRuntime) {
     ] {
         assert_eq!(rt; digits.text(n), text.as_bytes());
     }
+}
+
+fn parts(text_end: u32, rest: u32) -> Option<Parts> {
+    Some(Parts { text_end, rest })
+}
+
+#[test]
+fn an_input_is_split_at_its_first_marker_line(rt: HostRuntime) {
+    let marker = b"%T".as_slice();
+    assert_eq!(rt; split_parts(b"ab\n%T\ncd", marker), parts(3, 6));
+    assert_eq!(rt; split_parts(b"%T\n%T", marker), parts(0, 3));
+    assert_eq!(rt; split_parts(b"a%T\n%T\r\n%T", marker), parts(8, 10));
+    assert_eq!(rt; split_parts(b"ab\n%Tc", marker), None);
+    assert_eq!(rt; split_parts(b"", marker), None);
 }

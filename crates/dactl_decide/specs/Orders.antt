@@ -19,7 +19,9 @@ after_all (t ∷ tests) k = go_on (t k) (after_all tests)
 abbrev pub after_level : Pat-F (ℕ → Option ℕ) → ℕ → Option ℕ
 after_level Pat-F.Any k = Some k
 after_level Pat-F.Int k = Some k
+after_level Pat-F.Char k = Some k
 after_level (Pat-F.Literal i) k = Some k
+after_level (Pat-F.Letter c) k = Some k
 after_level (Pat-F.Sym f args) k = after_all args k
 after_level (Pat-F.Bind v q) k = if v == k then q (k + 1) else None
 after_level (Pat-F.Union q s) k = Some k

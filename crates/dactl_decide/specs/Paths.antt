@@ -28,13 +28,15 @@ tests_below tests (i ∷ path) = test_below (slice_get tests i) path
 abbrev pub tests_level : Pat-F (List ℕ → Bool) → List ℕ → Bool
 tests_level Pat-F.Any path = false
 tests_level Pat-F.Int path = is_root path
+tests_level Pat-F.Char path = is_root path
 tests_level (Pat-F.Literal i) path = is_root path
+tests_level (Pat-F.Letter c) path = is_root path
 tests_level (Pat-F.Sym f args) path = is_root path || tests_below args path
 tests_level (Pat-F.Bind v q) path = q path
 tests_level (Pat-F.Union q s) path = q path || s path
 tests_level (Pat-F.Less q s) path = q path || s path
 
--- the pattern tests the node at the end of the path, by its integer, its literal or its symbol
+-- the pattern tests the label of the node at the end of the path, by `Int`, `Char`, `Literal`, `Letter` or `Sym`
 abbrev pub tests : Pat → List ℕ → Bool
 tests = fold-Pat (List ℕ → Bool) tests_level
 

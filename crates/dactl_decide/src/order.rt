@@ -10,7 +10,8 @@ fn after(pattern: &Pat, next: u32) -> Option<u32>
     ensures { result ≡ after pattern.now next }
 {
     match pattern {
-        Pat::Any | Pat::Int | Pat::Literal(_) | Pat::Union { .. } => Some(next),
+        Pat::Any | Pat::Int | Pat::Char | Pat::Literal(_) | Pat::Letter(_) => Some(next),
+        Pat::Union { .. } => Some(next),
         Pat::Sym { args, .. } => after_each(args.as_slice(), next),
         Pat::Bind { var, inner } => {
             if u32::from(*var) == next {

@@ -54,7 +54,7 @@ pub fn add(alloc: Global, pattern: &Pat, tree: &mut PathTree) -> Result<(), Memo
 {
     match pattern {
         Pat::Any => {}
-        Pat::Int | Pat::Literal(_) => tree.tested = true,
+        Pat::Int | Pat::Char | Pat::Literal(_) | Pat::Letter(_) => tree.tested = true,
         Pat::Sym { args, .. } => {
             tree.tested = true;
             widen(alloc, &mut tree.below, args.len())?;

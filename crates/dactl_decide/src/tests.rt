@@ -49,16 +49,25 @@ fn put_pattern(alloc: Global) -> Result<Pat, Memory> {
     over(alloc, 8, Pat::Bind { var: 0, inner })
 }
 
+/// `Box[CHAR 'a']`.
+fn box_pattern(alloc: Global) -> Result<Pat, Memory> {
+    let mut args = Items::new(alloc);
+    args.push(Pat::Char)?;
+    args.push(Pat::Letter(b'a'))?;
+    Ok(Pat::Sym { symbol: 10, args })
+}
+
 /// Deciders do not look at bodies, so these are empty.
 fn empty_body(alloc: Global) -> Body {
     Body::Written {
         fresh: Items::new(alloc),
         moves: Items::new(alloc),
         wakes: Items::new(alloc),
+        suspend: 0,
     }
 }
 
-/// The rules of the arithmetic, and as numbers 5 and 6 those of `Get` and `Put`.
+/// The rules of the arithmetic, and as numbers 5 to 7 those of `Get`, `Put` and `Box`.
 fn rules(alloc: Global) -> Result<Items<Rule>, Memory> {
     let mut all = Items::new(alloc);
     let operations = [Op::Add, Op::Sub, Op::Mul, Op::Eq, Op::Lt];
@@ -79,6 +88,13 @@ fn rules(alloc: Global) -> Result<Items<Rule>, Memory> {
         pattern: put_pattern(alloc)?,
         body: empty_body(alloc),
     })?;
+    all.push(Rule {
+        symbol: 10,
+        group: 7,
+        variables: 0,
+        pattern: box_pattern(alloc)?,
+        body: empty_body(alloc),
+    })?;
     Ok(all)
 }
 
@@ -92,11 +108,12 @@ fn start(alloc: Global) -> Result<Start, Memory> {
     Ok(Start { fresh, root: 0 })
 }
 
-fn get_and_put(alloc: Global) -> Result<Program, Memory> {
+fn get_put_and_box(alloc: Global) -> Result<Program, Memory> {
     Ok(Program {
         symbols: symbols(alloc)?,
         rules: rules(alloc)?,
         start: start(alloc)?,
+        wide: true,
     })
 }
 
@@ -117,13 +134,14 @@ fn is_orderly(deciders: &Deciders, rule: u32) -> Option<bool> {
 }
 
 /// `Get` tests itself, its box and the cell in it; `Put` itself and its cell; `Cell`, without
-/// rules, counts its root alone; and `IAdd` tests itself and both integers.
+/// rules, counts its root alone; `Box` tests itself and both characters; and `IAdd` itself and both
+/// integers.
 #[test]
 fn the_paths_of_each_symbol_are_counted(rt: HostRuntime) -> Result<(), Fail> {
-    let program = get_and_put(rt.alloc())?;
+    let program = get_put_and_box(rt.alloc())?;
     assert!(rt; is_valid(&program));
     let deciders = compile(rt.alloc(), &program)?;
-    for (symbol, count) in [(7, 3), (8, 2), (9, 1), (0, 3)] {
+    for (symbol, count) in [(7, 3), (8, 2), (9, 1), (10, 3), (0, 3)] {
         assert_eq!(rt; paths(&deciders, symbol), Some(count));
     }
     assert_eq!(rt; deciders.widest(), 3);

@@ -3,3 +3,4 @@ pub mod Settled
 pub mod Made
 pub mod Moves
 pub mod Ready
+pub mod Flags

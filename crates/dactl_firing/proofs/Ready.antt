@@ -1,5 +1,5 @@
 -- What the store has once its nodes are settled and new ones are added: room, and versions.
-use Rattle.std.proofs.Common.{◌≡◌, ◌≢◌, ℕ, zero, suc, ◌+◌, ◌-◌, ◌<◌, ◌≤◌, ◌⊎◌, eqb, ltb, List, [], ◌∷◌, ◌++◌, length, get_or, map, All, Some, None, refl, sym, ap, ◌∙◌, arith, subst, inl, inr}
+use Rattle.std.proofs.Common.{◌≡◌, ◌≢◌, ℕ, zero, suc, ◌+◌, ◌-◌, ◌<◌, ◌≤◌, ◌⊎◌, Bool, true, false, eqb, ltb, List, [], ◌∷◌, ◌++◌, length, get_or, map, All, Some, None, refl, sym, ap, ◌∙◌, arith, subst, inl, inr}
 use Rattle.std.specs.List.{slice_get}
 use Rattle.std.proofs.lemmas.Bool.{eqb-true, eqb-false, ltb-true, cases_Bool}
 use Rattle.std.proofs.lemmas.Bool.Decides.{nat_tests}
@@ -7,19 +7,22 @@ use Rattle.std.proofs.lemmas.Option.{slice_get_past, slice_get-get_or, none-some
 use Rattle.std.proofs.lemmas.List.{length-append}
 use Rattle.std.proofs.lemmas.List.Elements.{All-append, All-map}
 use Rattle.dactl_model.specs.declared.graph.NodeId.{NodeId}
+use Rattle.dactl_model.specs.declared.graph.Label.{Label}
+use Rattle.dactl_model.specs.declared.graph.Label.TheVariants.{Symbol, Integer, Character}
 use Rattle.dactl_model.specs.declared.graph.Node.{Node}
 use Rattle.dactl_model.specs.declared.graph.Graph.{Graph}
 use Rattle.dactl_model.specs.declared.program.FreshNode.{FreshNode}
 use Rattle.dactl_model.specs.Graphs.{HasNode}
 use Rattle.dactl_model.specs.Firing.{old_nodes}
 use Rattle.dactl_model.specs.Programs.{IsMention, AreFreshNodes, fresh_arcs, IsWritten, IsBody, IsDelta, IsValidRule, IsValid as IsValidProgram}
-use Rattle.dactl_model.specs.Matching.{RuleMatches, Matches, HasResult}
+use Rattle.dactl_model.specs.Matching.{RuleMatches, Matches, HasResult, FitsRange, delta_label}
 use Rattle.dactl_model.specs.declared.program.Body.{Body}
 use Rattle.dactl_model.specs.declared.program.Body.TheVariants.{Written, Delta}
 use Rattle.dactl_model.specs.declared.program.Rule.{Rule}
 use Rattle.dactl_model.specs.declared.program.Program.{Program}
 use Rattle.dactl_model.specs.Ending.{arcs_of}
 use Rattle.dactl_model.specs.Versions.{content, content_of}
+use Rattle.dactl_model.proofs.InRange.{word_fits}
 use Rattle.dactl_model.proofs.KeptFire.{length-old_nodes}
 use Rattle.dactl_store.specs.Held.{Held, IsValid}
 use Rattle.dactl_store.specs.Contractum.{CanAppend}
@@ -30,10 +33,10 @@ use Rattle.dactl_firing.proofs.Settled.{same_arcs}
 use Rattle.dactl_firing.proofs.Made.{arcs_settled}
 
 -- the contents before the redirections are those of the graph
-content_settled : (n : NodeId) (h : List NodeId) (wakes : List ℕ) (k : ℕ) (nodes : List Node) (i : ℕ) → content_of (slice_get (old_nodes (λ x. x) n h wakes k nodes) i) ≡ content_of (slice_get nodes i)
-content_settled n h wakes k [] i = refl
-content_settled n h wakes k (node ∷ nodes) zero = ap (λ arcs. Some (record { label = node.label; targets = map (λ a. a.target) arcs })) (same_arcs node.arcs)
-content_settled n h wakes k (node ∷ nodes) (suc i) = content_settled n h wakes (k + 1) nodes i
+content_settled : (n : NodeId) (h : List NodeId) (wakes : List ℕ) (suspend k : ℕ) (nodes : List Node) (i : ℕ) → content_of (slice_get (old_nodes (λ x. x) n h wakes suspend k nodes) i) ≡ content_of (slice_get nodes i)
+content_settled n h wakes suspend k [] i = refl
+content_settled n h wakes suspend k (node ∷ nodes) zero = ap (λ arcs. Some (record { label = node.label; targets = map (λ a. a.target) arcs })) (same_arcs node.arcs)
+content_settled n h wakes suspend k (node ∷ nodes) (suc i) = content_settled n h wakes suspend (k + 1) nodes i
 
 in_first : {X : Type 0} (xs ys : List X) (i : ℕ) → i < length xs → slice_get (xs ++ ys) i ≡ slice_get xs i
 in_first [] ys i below = absurd (omega arith)
@@ -58,16 +61,16 @@ has_content [] i below same = absurd (omega arith)
 has_content (node ∷ nodes) zero below same = none-some _ (sym same)
 has_content (node ∷ nodes) (suc i) below same = has_content nodes i (omega arith) same
 
-pub settled_count : (g first : Graph) (n : NodeId) (h : List NodeId) (wakes : List ℕ) → first ≡ with_nodes g (old_nodes (λ x. x) n h wakes 0 g.nodes) → length first.nodes ≡ length g.nodes
-settled_count g first n h wakes settled = ap (λ x. length x.nodes) settled ∙ length-old_nodes (λ x. x) n h wakes 0 g.nodes
+pub settled_count : (g first : Graph) (n : NodeId) (h : List NodeId) (wakes : List ℕ) (suspend : ℕ) → first ≡ with_nodes g (old_nodes (λ x. x) n h wakes suspend 0 g.nodes) → length first.nodes ≡ length g.nodes
+settled_count g first n h wakes suspend settled = ap (λ x. length x.nodes) settled ∙ length-old_nodes (λ x. x) n h wakes suspend 0 g.nodes
 
-pub settled_arcs : (g first : Graph) (n : NodeId) (h : List NodeId) (wakes : List ℕ) → first ≡ with_nodes g (old_nodes (λ x. x) n h wakes 0 g.nodes) → arcs_of first ≡ arcs_of g
-settled_arcs g first n h wakes settled = ap arcs_of settled ∙ arcs_settled n h wakes 0 g.nodes
+pub settled_arcs : (g first : Graph) (n : NodeId) (h : List NodeId) (wakes : List ℕ) (suspend : ℕ) → first ≡ with_nodes g (old_nodes (λ x. x) n h wakes suspend 0 g.nodes) → arcs_of first ≡ arcs_of g
+settled_arcs g first n h wakes suspend settled = ap arcs_of settled ∙ arcs_settled n h wakes suspend 0 g.nodes
 
-module _ (old first second third : Held) (n : NodeId) (h : List NodeId) (wakes : List ℕ) (fresh : List FreshNode) (news : List Node) (version : ℕ) (valid : IsValid old)
-    (settled : first.graph ≡ with_nodes old.graph (old_nodes (λ x. x) n h wakes 0 old.graph.nodes)) (same_versions : first.versions ≡ old.versions) where
+module _ (old first second third : Held) (n : NodeId) (h : List NodeId) (wakes : List ℕ) (suspend : ℕ) (fresh : List FreshNode) (news : List Node) (version : ℕ) (valid : IsValid old)
+    (settled : first.graph ≡ with_nodes old.graph (old_nodes (λ x. x) n h wakes suspend 0 old.graph.nodes)) (same_versions : first.versions ≡ old.versions) where
   count_first : length first.graph.nodes ≡ length old.graph.nodes
-  count_first = settled_count old.graph first.graph n h wakes settled
+  count_first = settled_count old.graph first.graph n h wakes suspend settled
 
   module _ (long : length news ≡ length fresh) (added : second.graph.nodes ≡ first.graph.nodes ++ news) (new_versions : second.versions ≡ first.versions ++ map (λ _. version) fresh)
       (moved : IsVersioned version second third) (count : length third.graph.nodes ≡ length second.graph.nodes) where
@@ -76,7 +79,7 @@ module _ (old first second third : Held) (n : NodeId) (h : List NodeId) (wakes :
         ap (λ nodes. content_of (slice_get nodes x.number)) added
         ∙ ap content_of (in_first first.graph.nodes news x.number (omega (arith, count_first)))
         ∙ ap (λ g. content_of (slice_get g.nodes x.number)) settled
-        ∙ content_settled n h wakes 0 old.graph.nodes x.number
+        ∙ content_settled n h wakes suspend 0 old.graph.nodes x.number
 
     old_version : (x : NodeId) → x.number < length old.graph.nodes → slice_get second.versions x.number ≡ slice_get old.versions x.number
     old_version x below =
@@ -155,15 +158,23 @@ two_operands p (suc (suc (suc zero))) rule v is below = two_of p _ rule 3 v.eq i
 two_operands p (suc (suc (suc (suc zero)))) rule v is below = two_of p _ rule 4 v.lt is refl
 two_operands p (suc (suc (suc (suc (suc r))))) rule v is below = absurd (omega arith)
 
-can_make_body : (symbols : ℕ) (g : Graph) (n : NodeId) (rule : Rule) (body : Body) (h : List NodeId) → rule.body ≡ body → IsBody symbols rule.variables body → (IsDelta body → rule.variables ≡ 2) → RuleMatches g n rule h → CanMake g h body
-can_make_body symbols g n rule (Written fresh moves wakes) h is fine operands match = (symbols, subst (λ v. IsWritten symbols v fresh moves wakes) (sym match.long) fine)
-can_make_body symbols g n rule (Delta o) h is fine operands match = (match.long ∙ operands tt, let has : HasResult (Delta o) g h = subst (λ b. HasResult b g h) is match.result in has)
+-- what is in the range of a program has 128 bits
+fits_wide : (wide : Bool) (label : Label) → FitsRange wide label → FitsRange true label
+fits_wide wide (Symbol f) fits = tt
+fits_wide true (Integer i) fits = fits
+fits_wide false (Integer i) fits = word_fits i fits
+fits_wide wide (Character c) fits = tt
 
-pub match_of : (p : Program) (g : Graph) (n : NodeId) (r : ℕ) (rule : Rule) (h : List NodeId) → slice_get p.rules r ≡ Some rule → Matches p g n r h → RuleMatches g n rule h
+can_make_body : (wide : Bool) (symbols : ℕ) (g : Graph) (rule : Rule) (body : Body) (h : List NodeId) → length h ≡ rule.variables → HasResult wide body g h → IsBody symbols rule.variables body → (IsDelta body → rule.variables ≡ 2) → CanMake g h body
+can_make_body wide symbols g rule (Written fresh moves wakes suspend) h long result fine operands = (symbols, subst (λ v. IsWritten symbols v fresh moves wakes) (sym long) fine)
+can_make_body wide symbols g rule (Delta o) h long result fine operands = (long ∙ operands tt, fits_wide wide (delta_label o g h) result)
+
+pub match_of : (p : Program) (g : Graph) (n : NodeId) (r : ℕ) (rule : Rule) (h : List NodeId) → slice_get p.rules r ≡ Some rule → Matches p g n r h → RuleMatches p.wide g n rule h
 match_of p g n r rule h is match = rw is at match
 
 -- the body of a valid program's rule can be made where the rule matches
 pub can_make : (p : Program) (g : Graph) (n : NodeId) (r : ℕ) (rule : Rule) (h : List NodeId) → IsValidProgram p → slice_get p.rules r ≡ Some rule → Matches p g n r h → CanMake g h rule.body
 can_make p g n r rule h valid is match =
     let fine : IsValidRule (length p.symbols) r rule = valid.rules r rule is in
-    can_make_body (length p.symbols) g n rule rule.body h refl fine.body (λ delta. two_operands p r rule valid is (fine.delta delta)) (match_of p g n r rule h is match)
+    let matches : RuleMatches p.wide g n rule h = match_of p g n r rule h is match in
+    can_make_body p.wide (length p.symbols) g rule rule.body h matches.long matches.result fine.body (λ delta. two_operands p r rule valid is (fine.delta delta))

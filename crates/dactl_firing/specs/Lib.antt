@@ -1,4 +1,5 @@
 pub mod Body
 pub mod Fired
 pub mod Site
+pub mod Suspending
 pub mod Waking

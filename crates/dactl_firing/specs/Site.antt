@@ -41,8 +41,8 @@ pub record IsSiteIn (site : Site) (g : Graph) : Type 0 where
   pub few : length site.bindings.now ≤ 64
 
 -- the store has the nodes as they are before the redirections, and the list has those that are active anew
-pub record IsSettled (n : NodeId) (h : List NodeId) (wakes : List ℕ) (old : Held) (before : NodeList) (new : Held) (after : NodeList) : Type 0 where
-  pub graph : new.graph ≡ with_nodes old.graph (old_nodes (λ x. x) n h wakes 0 old.graph.nodes)
+pub record IsSettled (n : NodeId) (h : List NodeId) (wakes : List ℕ) (suspend : ℕ) (old : Held) (before : NodeList) (new : Held) (after : NodeList) : Type 0 where
+  pub graph : new.graph ≡ with_nodes old.graph (old_nodes (λ x. x) n h wakes suspend 0 old.graph.nodes)
   pub versions : new.versions ≡ old.versions
   pub room : new.room ≡ old.room
   pub newest : new.newest ≡ old.newest

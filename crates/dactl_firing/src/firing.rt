@@ -1,6 +1,6 @@
 //! A rule that fires.
 
-ghost use Rattle.std.specs.Prelude.{◌≡◌, ◌<◌, ◌≤◌, ◌^◌, Some, OnOk, IfErr, length, slice_get};
+ghost use Rattle.std.specs.Prelude.{◌≡◌, ◌<◌, ◌≤◌, ◌^◌, OnOk, IfErr};
 ghost use Rattle.dactl_model.specs.Ending.{needed_by};
 ghost use Rattle.dactl_model.specs.Graphs.{HasNode};
 ghost use Rattle.dactl_model.specs.Matching.{Matches};
@@ -12,7 +12,7 @@ ghost use Rattle.dactl_firing.specs.Body.{IsSmallBody};
 use crate::site::Site;
 use dactl_model::footprint::Woken;
 use dactl_model::graph::{NodeId, Room};
-use dactl_model::program::{Body, Program, Rule};
+use dactl_model::program::{Body, Program};
 use dactl_store::{Store, arc_count};
 
 /// A rule makes more nodes or more arcs than there is room for: what it needs, and what is left.
@@ -20,13 +20,6 @@ use dactl_store::{Store, arc_count};
 pub struct Full {
     pub needed: Room,
     pub left: Room,
-}
-
-fn rule_of(program: &Program, rule: u32) -> &Rule
-    requires { rule < length program.now.rules }
-    ensures { slice_get program.now.rules rule ≡ Some result.now }
-{
-    &program.rules.as_slice()[rule as usize]
 }
 
 // What the body makes.
@@ -44,11 +37,13 @@ fn needed_by(body: &Body) -> Room
 }
 
 /// The rule fires at the node, where `bindings` is its match: its new nodes are added at the end, all arcs
-/// are redirected, the node gives up its activity, and the nodes to be woken are. The new nodes, and those
-/// whose targets are others then, get the entry's number as their version; it is greater than that of each
-/// firing before. `woken` gets the nodes that the step makes active, in ascending order.
+/// are redirected, the node gives up its activity or waits again, and the nodes to be woken are. The new
+/// nodes, and those whose targets are others then, get the entry's number as their version; it is greater
+/// than that of each firing before. `woken` gets the nodes that the step makes active, in ascending order,
+/// and the node itself where it is active afterwards.
 ///
-/// It takes time for the new nodes and arcs, for the redirections, and to sort the woken ones.
+/// It takes time for the new nodes and arcs, for the redirections, for the node's own arcs where it waits
+/// again, and to sort the woken ones.
 ///
 /// # Errors
 /// Full where the rule makes more nodes or more arcs than are left. The store is as it was then, and `woken`
@@ -71,7 +66,7 @@ pub fn fire(
     ensures err { IfErr result (IsFull program.now rule store.old store.new woken.new.list) }
     ensures list_room { woken.new.room ≡ woken.old.room }
 {
-    let body = &rule_of(program, rule).body;
+    let body = &program.rule(rule).body;
     let needed = needed_by(body);
     let left = store.left();
     if needed.nodes > left.nodes || needed.arcs > left.arcs {

@@ -2,10 +2,10 @@
 //! than what it changes, and takes no memory.
 #![tactic(auto)]
 
-mod arithmetic;
 mod firing;
 mod noting;
 mod site;
+mod suspending;
 mod waking;
 
 pub use firing::{Full, fire};

@@ -1,21 +1,23 @@
 //! The parts of a firing.
 
-ghost use Rattle.std.specs.Prelude.{◌≡◌, ◌+◌, ◌<◌, ◌≤◌, All, length, take};
+ghost use Rattle.std.specs.Prelude.{◌≡◌, ◌+◌, ◌<◌, ◌≤◌, true, All, length, take};
 ghost use Rattle.dactl_model.specs.declared.program.Body.TheVariants.{Written, Delta};
 ghost use Rattle.dactl_model.specs.Ending.{needed_by};
 ghost use Rattle.dactl_model.specs.Firing.{left_node, rewritten, fired};
-ghost use Rattle.dactl_model.specs.Matching.{bound_node, FitsWord, delta_label};
+ghost use Rattle.dactl_model.specs.Matching.{bound_node, FitsRange, delta_label, operand};
 ghost use Rattle.dactl_store.specs.Held.{IsValid, left_in};
 ghost use Rattle.dactl_store.specs.Redirecting.{AreNodes, sent, redirected, IsVersioned, IsLatest};
 ghost use Rattle.dactl_store.specs.Start.{Fits};
 ghost use Rattle.dactl_firing.specs.Site.{IsNamedLeft, IsNamedMove, pair_of, pairs_of, IsSiteIn, IsSettled, IsWrittenFor, IsMade};
 ghost use Rattle.dactl_firing.specs.Body.{CanMake};
 
-use crate::arithmetic::{integer_at, result_label};
-use crate::waking::{list_new, wake_all};
+use crate::suspending::settled_mark;
+use crate::waking::{list_active, list_new, wake_all};
+use dactl_model::arithmetic::result_label;
 use dactl_model::footprint::Woken;
 use dactl_model::graph::{Label, Mark, NodeId};
 use dactl_model::program::{Body, FreshNode, Left, Move, Op};
+use dactl_model::view::View;
 use dactl_store::{Store, mentioned_node};
 
 /// Where a rule fires: the node, those of the rule's variables, and the number of the entry, which is the
@@ -81,16 +83,19 @@ impl Site<'_> {
         store.redirect(&pairs[..moves.len()], self.entry);
     }
 
-    // The node gives up its activity, and then the nodes of the variables are woken.
-    fn settle(&self, store: &mut Store, wakes: &[u8], woken: &mut Woken)
+    // The node gives up its activity or waits again, and then the nodes of the variables are woken.
+    fn settle(&self, store: &mut Store, wakes: &[u8], suspend: u8, woken: &mut Woken)
+        requires valid { IsValid store.old }
         requires site { IsSiteIn self.now store.old.graph }
         requires wakes { All (λ v. v < length self.now.bindings.now) wakes.now }
         requires room { length store.old.graph.nodes ≤ woken.old.room }
-        ensures { IsSettled self.now.node self.now.bindings.now wakes.now store.old woken.old store.new woken.new }
+        ensures { IsSettled self.now.node self.now.bindings.now wakes.now suspend store.old woken.old store.new woken.new }
     {
         woken.clear();
-        store.set_mark(self.node, Mark::Idle);
+        let mark = settled_mark(store, self.node, suspend);
+        store.set_mark(self.node, mark);
         wake_all(store, self.bindings, wakes, woken);
+        list_active(self.node.number, mark, woken);
         woken.sort();
     }
 
@@ -101,21 +106,32 @@ impl Site<'_> {
         fresh: &[FreshNode],
         moves: &[Move],
         wakes: &[u8],
+        suspend: u8,
         woken: &mut Woken,
     )
         requires valid { IsValid store.old }
         requires site { IsSiteIn self.now store.old.graph }
         requires body { IsWrittenFor (length self.now.bindings.now) fresh.now moves.now wakes.now }
         requires latest { IsLatest self.now.entry store.old }
-        requires fits { Fits (needed_by (Written fresh.now moves.now wakes.now)) (left_in store.old) }
+        requires fits { Fits (needed_by (Written fresh.now moves.now wakes.now suspend)) (left_in store.old) }
         requires room { store.old.room.nodes ≤ woken.old.room }
-        ensures { IsMade self.now.node self.now.entry (rewritten store.old.graph self.now.node self.now.bindings.now fresh.now moves.now wakes.now) store.old woken.old store.new woken.new }
+        ensures { IsMade self.now.node self.now.entry (rewritten store.old.graph self.now.node self.now.bindings.now fresh.now moves.now wakes.now suspend) store.old woken.old store.new woken.new }
     {
-        self.settle(store, wakes, woken);
+        self.settle(store, wakes, suspend, woken);
         let first = store.next_number();
         store.append_contractum(self.bindings, fresh, self.entry);
         list_new(first, fresh, woken);
         self.redirect(store, first, moves);
+    }
+
+    // The integer at the node of a variable.
+    fn operand(&self, store: &Store, variable: usize) -> i128
+        requires valid { IsValid store.now }
+        requires site { IsSiteIn self.now store.now.graph }
+        requires variable { variable < length self.now.bindings.now }
+        ensures { result ≡ operand store.now.graph self.now.bindings.now variable }
+    {
+        store.label(self.bindings[variable]).integer()
     }
 
     // What an arithmetic rule makes of its two operands.
@@ -123,12 +139,10 @@ impl Site<'_> {
         requires valid { IsValid store.now }
         requires site { IsSiteIn self.now store.now.graph }
         requires operands { length self.now.bindings.now ≡ 2 }
-        requires fits { FitsWord (delta_label op store.now.graph self.now.bindings.now) }
+        requires fits { FitsRange true (delta_label op store.now.graph self.now.bindings.now) }
         ensures { result ≡ delta_label op store.now.graph self.now.bindings.now }
     {
-        let x = integer_at(store, self.bindings[0]);
-        let y = integer_at(store, self.bindings[1]);
-        result_label(op, x, y)
+        result_label(op, self.operand(store, 0), self.operand(store, 1))
     }
 
     // Makes the result of an arithmetic rule, to which the node is redirected.
@@ -136,14 +150,14 @@ impl Site<'_> {
         requires valid { IsValid store.old }
         requires site { IsSiteIn self.now store.old.graph }
         requires operands { length self.now.bindings.now ≡ 2 }
-        requires result { FitsWord (delta_label op store.old.graph self.now.bindings.now) }
+        requires result { FitsRange true (delta_label op store.old.graph self.now.bindings.now) }
         requires latest { IsLatest self.now.entry store.old }
         requires fits { Fits (needed_by (Delta op)) (left_in store.old) }
         requires room { store.old.room.nodes ≤ woken.old.room }
         ensures { IsMade self.now.node self.now.entry (fired store.old.graph self.now.node self.now.bindings.now (Delta op)) store.old woken.old store.new woken.new }
     {
         let label = self.computed(store, op);
-        self.settle(store, &[], woken);
+        self.settle(store, &[], 0, woken);
         let made = store.append(label, Mark::Active, self.entry);
         woken.push(made);
         store.redirect(&[(self.node, made)], self.entry);
@@ -164,11 +178,13 @@ impl Site<'_> {
                 fresh,
                 moves,
                 wakes,
+                suspend,
             } => self.make_written(
                 store,
                 fresh.as_slice(),
                 moves.as_slice(),
                 wakes.as_slice(),
+                *suspend,
                 woken,
             ),
             Body::Delta(op) => self.make_result(store, *op, woken),

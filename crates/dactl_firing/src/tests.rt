@@ -3,22 +3,21 @@ mod nodes;
 mod programs;
 
 ghost use Rattle.std.specs.Prelude.{◌≡◌, ◌+◌, ◌≤◌, IfOk, IsTrue};
-ghost use Rattle.dactl_model.specs.Matching.{FitsWord, delta};
 ghost use Rattle.dactl_model.specs.Programs.{IsValid as IsValidProgram};
 ghost use Rattle.dactl_store.specs.Redirecting.{IsLatest};
 
-use crate::arithmetic::result_label;
 use crate::{Full, fire, note};
 use dactl_model::footprint::Woken;
 use dactl_model::graph::{Label, Mark, NodeId, Room};
-use dactl_model::program::{Op, Program};
+use dactl_model::program::Program;
 use dactl_model::validity::is_valid;
 use dactl_model::view::View;
 use dactl_store::{BeginCause, Memory, Store};
 use matching::is_match;
 use nodes::{id, is_node};
 use programs::{
-    A, CONS, Contractum, F, G, from, from_root, new, node, old, program, to, to_both, waits_for,
+    A, CONS, Contractum, F, G, NOTHING, arc, from, from_root, new, node, old, program, to, to_both,
+    waits_for,
 };
 use std::alloc::Global;
 use std::test::Fail;
@@ -40,29 +39,46 @@ fn symbol(number: u32) -> Label {
     Label::Symbol(number)
 }
 
-/// Whether the rule of `F` has this answer as entry 5, where these are the nodes of its variables, and makes
-/// these nodes active. The list of woken nodes has the first node before.
+/// A rule that is to fire at a node, with these nodes for its variables.
+#[derive(Clone, Copy)]
+struct Call<'a> {
+    node: NodeId,
+    rule: u32,
+    bound: &'a [NodeId],
+}
+
+/// The rule of `F` at the first of the nodes of its variables.
+fn own_call(bound: &[NodeId; 3]) -> Call<'_> {
+    Call {
+        node: bound[0],
+        rule: 5,
+        bound,
+    }
+}
+
+/// Whether the rule has this answer as entry 5, and makes these nodes active. The list of woken nodes has
+/// the node at which it fires before.
 fn answers(
     alloc: Global,
     program: &Program,
     store: &mut Store,
-    bound: [NodeId; 3],
+    call: Call<'_>,
     full: Option<Full>,
     wakes: &[NodeId],
 ) -> bool
     requires program { IsValidProgram program.now }
     requires latest { IsLatest 1 store.old }
 {
-    let [node, ..] = bound;
+    let Call { node, rule, bound } = call;
     let count = store.next_number();
     let Ok(mut woken) = Woken::with_room(alloc, count + store.left().nodes) else {
         return false;
     };
-    if node.number >= count || !is_match(store, program, node, 5, &bound) {
+    if node.number >= count || !is_match(store, program, node, rule, bound) {
         return false;
     }
     woken.push(node);
-    let answer = fire(store, program, node, 5, &bound, 5, &mut woken).err();
+    let answer = fire(store, program, node, rule, bound, 5, &mut woken).err();
     answer == full && woken.list() == wakes
 }
 
@@ -79,6 +95,7 @@ fn everything(alloc: Global) -> Result<Program, Memory> {
         fresh: &fresh,
         moves: &[from_root(new(0)), from(1, old(2))],
         wakes: &[1],
+        suspend: 0,
     };
     let call = to_both(1, 2);
     let arcs = [to(new(0)), waits_for(new(1)), to(new(2))];
@@ -131,8 +148,14 @@ fn sends_all(alloc: Global, program: &Program) -> bool
         return false;
     };
     let bound = [id(0), id(1), id(2)];
-    answers(alloc, program, &mut store, bound, None, &[id(1), id(5)])
-        && has_sent(&store)
+    answers(
+        alloc,
+        program,
+        &mut store,
+        own_call(&bound),
+        None,
+        &[id(1), id(5)],
+    ) && has_sent(&store)
         && has_made(&store)
 }
 
@@ -156,7 +179,7 @@ fn is_refused(alloc: Global, program: &Program, limit: Room, left: Room) -> bool
     let bound = [id(0), id(1), id(2)];
     let needed = room(2, 4);
     let full = Some(Full { needed, left });
-    answers(alloc, program, &mut store, bound, full, &[]) && is_unchanged(&store)
+    answers(alloc, program, &mut store, own_call(&bound), full, &[]) && is_unchanged(&store)
 }
 
 /// The start takes four nodes and five arcs, and the rule two and four, so a node or an arc is wanting.
@@ -175,6 +198,7 @@ fn waking(alloc: Global) -> Result<Program, Memory> {
         fresh: &[],
         moves: &[],
         wakes: &[0, 1, 2, 0],
+        suspend: 0,
     };
     let call = to_both(2, 0);
     let arcs = [waits_for(new(1)), to(new(0))];
@@ -216,8 +240,14 @@ fn wakes_each_once(alloc: Global, program: &Program) -> bool
         return false;
     };
     let bound = [id(1), id(2), id(0)];
-    answers(alloc, program, &mut store, bound, None, &[id(0), id(1)])
-        && are_marked(&store, Mark::Active, Mark::Waiting(1), true)
+    answers(
+        alloc,
+        program,
+        &mut store,
+        own_call(&bound),
+        None,
+        &[id(0), id(1)],
+    ) && are_marked(&store, Mark::Active, Mark::Waiting(1), true)
         && wakes(alloc, &mut store, 1, &[id(2)])
         && are_marked(&store, Mark::Idle, Mark::Active, false)
 }
@@ -232,30 +262,124 @@ fn woken_nodes_are_listed_once(rt: HostRuntime) -> Result<(), Fail> {
     Ok(())
 }
 
-/// Whether what the operation makes of these integers fits into 64 bits.
-fn has_word(op: Op, x: i64, y: i64) -> bool
-    ensures { IsTrue result → FitsWord (delta op x y) }
+/// `r:F[x y] -> #r *r *x`, with so many `#`, and the start `*F[a b]`, `a:A` and `b:A`, where these of the
+/// two arcs are flagged.
+fn suspending(alloc: Global, suspend: u8, flags: [bool; 2]) -> Result<Program, Memory> {
+    let made = Contractum {
+        wakes: &[0, 1],
+        suspend,
+        ..NOTHING
+    };
+    let [first, second] = flags;
+    let call = [arc(new(1), first), arc(new(2), second)];
+    let start = [
+        node(symbol(F), Mark::Active, &call),
+        node(symbol(A), Mark::Idle, &[]),
+        node(symbol(A), Mark::Idle, &[]),
+    ];
+    program(alloc, made, &start)
+}
+
+/// Whether the rule of that program leaves its node with this mark and its arcs as they were, and makes these
+/// nodes active.
+fn leaves(alloc: Global, program: &Program, flags: [bool; 2], mark: Mark, wakes: &[NodeId]) -> bool
+    requires { IsValidProgram program.now }
 {
-    match op {
-        Op::Add => x.checked_add(y).is_some(),
-        Op::Sub => x.checked_sub(y).is_some(),
-        Op::Mul => x.checked_mul(y).is_some(),
-        Op::Eq | Op::Lt => true,
-    }
+    let Ok(mut store) = begin(alloc, program, room(3, 2)) else {
+        return false;
+    };
+    let [first, second] = flags;
+    let bound = [id(0), id(1), id(2)];
+    answers(alloc, program, &mut store, own_call(&bound), None, wakes)
+        && is_node(&store, 0, 0, mark, symbol(F), &[(1, first), (2, second)])
+        && is_node(&store, 1, 0, Mark::Active, symbol(A), &[])
+}
+
+/// Whether that program is valid, and its rule does so.
+fn suspends(
+    alloc: Global,
+    suspend: u8,
+    flags: [bool; 2],
+    mark: Mark,
+    wakes: &[NodeId],
+) -> Result<bool, Memory> {
+    let program = suspending(alloc, suspend, flags)?;
+    Ok(is_valid(&program) && leaves(alloc, &program, flags, mark, wakes))
+}
+
+/// The node at which the rule fires waits again for as many notifications as it asks, but for no more than
+/// its own flagged arcs; where it has none it stays active.
+#[test]
+fn a_root_waits_along_its_own_arcs(rt: HostRuntime) -> Result<(), Fail> {
+    let woken = [id(1)];
+    let active = [id(0), id(1)];
+    assert!(&rt; suspends(rt.alloc(), 1, [true, false], Mark::Waiting(1), &woken)?);
+    assert!(&rt; suspends(rt.alloc(), 1, [true, true], Mark::Waiting(1), &woken)?);
+    assert!(&rt; suspends(rt.alloc(), 3, [true, true], Mark::Waiting(2), &woken)?);
+    assert!(&rt; suspends(rt.alloc(), 1, [false, false], Mark::Active, &active)?);
+    Ok(())
+}
+
+/// The start `*Op[x y]` of an arithmetic symbol, which is also that of its rule, and two integers.
+fn calling(alloc: Global, operation: u32, x: i128, y: i128) -> Result<Program, Memory> {
+    let call = to_both(1, 2);
+    let start = [
+        node(symbol(operation), Mark::Active, &call),
+        node(Label::Integer(x), Mark::Idle, &[]),
+        node(Label::Integer(y), Mark::Idle, &[]),
+    ];
+    program(alloc, NOTHING, &start)
+}
+
+/// Whether the root is a new active node with this label.
+fn has_result(store: &Store, label: Label) -> bool {
+    store.next_number() == 4
+        && store.root() == id(3)
+        && is_node(store, 3, 5, Mark::Active, label, &[])
+}
+
+/// Whether the rule of the operation makes that node.
+fn results(alloc: Global, program: &Program, operation: u32, label: Label) -> bool
+    requires { IsValidProgram program.now }
+{
+    let Ok(mut store) = begin(alloc, program, room(4, 2)) else {
+        return false;
+    };
+    let call = Call {
+        node: id(0),
+        rule: operation,
+        bound: &[id(1), id(2)],
+    };
+    answers(alloc, program, &mut store, call, None, &[id(3)]) && has_result(&store, label)
+}
+
+/// Whether the operation makes this label of the integers.
+fn computes(alloc: Global, operation: u32, x: i128, y: i128, label: Label) -> Result<bool, Memory> {
+    let program = calling(alloc, operation, x, y)?;
+    Ok(is_valid(&program) && results(alloc, &program, operation, label))
 }
 
 /// The sum, the difference, the product and the two comparisons of 40 and 2.
 #[test]
-fn arithmetic_rules_make_a_result(rt: HostRuntime) {
-    for (op, label) in [
-        (Op::Add, Label::Integer(42)),
-        (Op::Sub, Label::Integer(38)),
-        (Op::Mul, Label::Integer(80)),
-        (Op::Eq, symbol(6)),
-        (Op::Lt, symbol(6)),
+fn arithmetic_rules_make_a_result(rt: HostRuntime) -> Result<(), Fail> {
+    for (operation, label) in [
+        (0, Label::Integer(42)),
+        (1, Label::Integer(38)),
+        (2, Label::Integer(80)),
+        (3, symbol(6)),
+        (4, symbol(6)),
     ] {
-        assert!(&rt; has_word(op, 40, 2) && result_label(op, 40, 2) == label);
+        assert!(&rt; computes(rt.alloc(), operation, 40, 2, label)?);
     }
+    Ok(())
+}
+
+/// The sum of the greatest 64-bit integer and 1.
+#[test]
+fn a_sum_may_have_more_than_64_bits(rt: HostRuntime) -> Result<(), Fail> {
+    let sum = Label::Integer(0x8000_0000_0000_0000);
+    assert!(&rt; computes(rt.alloc(), 0, 0x7fff_ffff_ffff_ffff, 1, sum)?);
+    Ok(())
 }
 
 /// `r:F[x y] => #Cons[x ^*F[x y]]`, and the start `*F[a b]`, `a:A` and `b:A`.
@@ -270,6 +394,7 @@ fn growing(alloc: Global) -> Result<Program, Memory> {
         fresh: &fresh,
         moves: &[from_root(new(0))],
         wakes: &[],
+        suspend: 0,
     };
     let call = to_both(1, 2);
     let start = [

@@ -48,9 +48,9 @@ pub fn wake_all(store: &mut Store, bindings: &[NodeId], wakes: &[u8], woken: &mu
     }
 }
 
-// Lists a new node if it is active.
-fn list_active(number: u32, mark: Mark, woken: &mut Woken)
-    requires { length woken.old.list < woken.old.room }
+/// Lists a node if it is active.
+pub fn list_active(number: u32, mark: Mark, woken: &mut Woken)
+    requires { IsTrue (marks_active mark) → length woken.old.list < woken.old.room }
     ensures list { woken.new.list ≡ (if marks_active mark then woken.old.list ++ record { number = number } ∷ [] else woken.old.list) }
     ensures room { woken.new.room ≡ woken.old.room }
 {

@@ -13,7 +13,7 @@ use Rattle.dactl_model.specs.declared.graph.Event.{Event}
 use Rattle.dactl_model.specs.declared.graph.Event.TheVariants.{Fire, Note}
 use Rattle.dactl_model.specs.declared.graph.Entry.{Entry}
 use Rattle.dactl_model.specs.declared.program.Program.{Program}
-use Rattle.dactl_model.specs.Graphs.{node_at}
+use Rattle.dactl_model.specs.Graphs.{node_at, flags}
 use Rattle.dactl_model.specs.Programs.{IsValid}
 use Rattle.dactl_model.specs.Matching.{IsActive}
 use Rattle.dactl_model.specs.Firing.{is_woken, mark_after, woken_mark, old_nodes, start_of}
@@ -141,13 +141,14 @@ woken_stays true Active is = refl
 woken_stays true (Waiting k) is = is
 woken_stays false mark is = is
 
-after_stays : (at woken : Bool) (mark : Mark) → marks_active mark ≡ true → at ≡ false → marks_active (mark_after at woken mark) ≡ true
-after_stays true woken mark is other = cc
-after_stays false woken mark is other = woken_stays woken mark is
+after_stays : (at : Bool) (suspend waits : ℕ) (woken : Bool) (mark : Mark) → marks_active mark ≡ true → at ≡ false → marks_active (mark_after at suspend waits woken mark) ≡ true
+after_stays true suspend waits woken mark is other = cc
+after_stays false suspend waits woken mark is other = woken_stays woken mark is
 
-fired_keeps : (f : NodeId → NodeId) (n : NodeId) (h : List NodeId) (wakes : List ℕ) (k : ℕ) (nodes more : List Node) → KeepsActive nodes n.number k (old_nodes f n h wakes k nodes ++ more)
-fired_keeps f n h wakes k [] more = tt
-fired_keeps f n h wakes k (node ∷ nodes) more = (after_stays (k == n.number) (is_woken h wakes k) node.mark, fired_keeps f n h wakes (k + 1) nodes more)
+fired_keeps : (f : NodeId → NodeId) (n : NodeId) (h : List NodeId) (wakes : List ℕ) (suspend k : ℕ) (nodes more : List Node) → KeepsActive nodes n.number k (old_nodes f n h wakes suspend k nodes ++ more)
+fired_keeps f n h wakes suspend k [] more = tt
+fired_keeps f n h wakes suspend k (node ∷ nodes) more =
+    (after_stays (k == n.number) suspend (flags node.arcs) (is_woken h wakes k) node.mark, fired_keeps f n h wakes suspend (k + 1) nodes more)
 
 noted_stays : (at : Bool) (j : ℕ) (mark : Mark) → marks_active mark ≡ true → at ≡ false → marks_active (if at then Idle else noted_mark j mark) ≡ true
 noted_stays true j mark is other = cc
@@ -164,7 +165,7 @@ step_active p g after (Fire n r) step = step.0.active
 step_active p g after (Note n) step = step.0.active
 
 step_keeps : (p : Program) (g after : Graph) (e : Event) → Step p g e after → KeepsActive g.nodes (node_of_event e).number 0 after.nodes
-step_keeps p g after (Fire n r) step = subst (λ x. KeepsActive g.nodes n.number 0 x.nodes) (sym step.1.after) (fired_keeps _ n _ _ 0 g.nodes _)
+step_keeps p g after (Fire n r) step = subst (λ x. KeepsActive g.nodes n.number 0 x.nodes) (sym step.1.after) (fired_keeps _ n _ _ _ 0 g.nodes _)
 step_keeps p g after (Note n) step = subst (λ x. KeepsActive g.nodes n.number 0 x.nodes) (sym step.1) (noted_keeps n 0 g.nodes)
 
 -- one step

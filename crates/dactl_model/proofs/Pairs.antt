@@ -83,7 +83,9 @@ module _ (count : ℕ) (g : Graph) (rs : List Reading) (fine : IsWellFormed g) (
   has_pairs = pat_induction HasPairs (record {
     any = opened Pat-F.Any (λ below n has. tt);
     int = opened Pat-F.Int (λ below n has. label_pairs (reading_of rs n) _);
+    char = opened Pat-F.Char (λ below n has. label_pairs (reading_of rs n) _);
     literal = λ i. opened (Pat-F.Literal i) (λ below n has. label_pairs (reading_of rs n) _);
+    letter = λ c. opened (Pat-F.Letter c) (λ below n has. label_pairs (reading_of rs n) _);
     symbol = λ f args each. opened (Pat-F.Sym f args) (λ below n has. symbol_pairs f args each below n (reading_of rs n) refl);
     bind = λ v q ih. opened (Pat-F.Bind v q) (λ below n has. (record { variable = below_of v (left_true _ _ below); node = has }, ih (right_true _ _ below) n has));
     union = λ q s left right. opened (Pat-F.Union q s) (λ below n has. tt);

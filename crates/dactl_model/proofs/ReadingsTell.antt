@@ -20,7 +20,7 @@ use Rattle.dactl_model.specs.declared.program.Program.{Program}
 use Rattle.dactl_model.specs.Graphs.{node_at, HasNode, IsWellFormed}
 use Rattle.dactl_model.specs.Patterns.{sat, same_node, is_integer}
 use Rattle.dactl_model.specs.Programs.{IsValid, IsValidRule, IsDelta, integer_binder, arithmetic_pattern, arithmetic_rule}
-use Rattle.dactl_model.specs.Matching.{bound_node, integer_of, integer_in, delta, delta_label, FitsWord, HasResult, RuleMatches, Matches, HasNoMatch, Precedes}
+use Rattle.dactl_model.specs.Matching.{bound_node, integer_of, integer_in, delta, delta_label, FitsRange, HasResult, RuleMatches, Matches, HasNoMatch, Precedes}
 use Rattle.dactl_model.specs.Readings.{No, Yes, Told, told, told_all, told_symbol, told_symbol_at, told_label, reading_of, Agrees, targets_of}
 use Rattle.dactl_model.specs.RuleTold.{no_conflict, bindings_told, integer_read, delta_told, HasResultTold, IsRuleYes, IsRuleNo, Agree}
 use Rattle.dactl_model.specs.Laws.{ReadingsTell, ShownMayHappen}
@@ -149,16 +149,16 @@ module _ (g : Graph) (rs : List Reading) (agree : AllByRecursion (Agrees g) rs) 
         variables_of (x ∷ xs) are = (are.0.variable, variables_of xs are.1)
 
     -- the result of an operation is the one that was told
-    results : (body : Body) → rule.body ≡ body → (h k : List NodeId) → (told rs rule.pattern n).value ≡ Yes → Gives h (told rs rule.pattern n).pairs → Gives k (told rs rule.pattern n).pairs → HasResultTold body rs k ↔ HasResult body g h
-    results (Written fresh moves wakes) is h k e gives also = (λ told. tt, λ result. tt)
+    results : (body : Body) → rule.body ≡ body → (h k : List NodeId) → (told rs rule.pattern n).value ≡ Yes → Gives h (told rs rule.pattern n).pairs → Gives k (told rs rule.pattern n).pairs → HasResultTold p.wide body rs k ↔ HasResult p.wide body g h
+    results (Written fresh moves wakes suspend) is h k e gives also = (λ told. tt, λ result. tt)
     results (Delta o) is h k e gives also =
         let below : r < 5 = rule_fine.delta (subst IsDelta (sym is) tt) in
         let pattern : rule.pattern ≡ arithmetic_pattern r = is_arithmetic p r rule valid is_rule below in
         let same : delta_told o rs k ≡ delta_label o g h =
         same_result r n o h k (subst (λ q. (told rs q n).value ≡ Yes) pattern e) (subst (λ q. Gives h (told rs q n).pairs) pattern gives) (subst (λ q. Gives k (told rs q n).pairs) pattern also) in
-        (λ told. subst FitsWord same told, λ result. subst FitsWord (sym same) result)
+        (λ told. subst (FitsRange p.wide) same told, λ result. subst (FitsRange p.wide) (sym same) result)
 
-    rule_matches : IsRuleYes rs n rule → RuleMatches g n rule (bindings_told rs n rule)
+    rule_matches : IsRuleYes p.wide rs n rule → RuleMatches p.wide g n rule (bindings_told rs n rule)
     rule_matches sure =
         let gives = given sure.agreed in
         record {
@@ -168,7 +168,7 @@ module _ (g : Graph) (rs : List Reading) (agree : AllByRecursion (Agrees g) rs) 
           result = (results rule.body refl _ _ sure.pattern gives gives).0 sure.result;
         }
 
-    none_matches : IsRuleNo rs n rule → (h : List NodeId) → RuleMatches g n rule h → ⊥
+    none_matches : IsRuleNo p.wide rs n rule → (h : List NodeId) → RuleMatches p.wide g n rule h → ⊥
     none_matches denied h is =
         let gives : Gives h (told rs rule.pattern n).pairs = (tells g rs agree rule.pattern).pairs h n is.holds in
         let agreed : no_conflict (told rs rule.pattern n).pairs ≡ true = given_agree h _ gives in
@@ -187,9 +187,9 @@ has_active : (g : Graph) (n : NodeId) (o : Option Node) → node_at g n ≡ o �
 has_active g n None at is = absurd is
 has_active g n (Some node) at is = has_node g n node at
 
-none_of : (p : Program) (g : Graph) (rs : List Reading) (n : NodeId) → IsValid p → IsWellFormed g → Agree rs g → HasNode g n → All (λ rule. IsRuleNo rs n rule) p.rules → (r : ℕ) (o : Option Rule) → slice_get p.rules r ≡ o → HasNoMatch p g n r
+none_of : (p : Program) (g : Graph) (rs : List Reading) (n : NodeId) → IsValid p → IsWellFormed g → Agree rs g → HasNode g n → All (λ rule. IsRuleNo p.wide rs n rule) p.rules → (r : ℕ) (o : Option Rule) → slice_get p.rules r ≡ o → HasNoMatch p g n r
 none_of p g rs n valid fine agree has denied r None is = λ h matches. absurd (rw is at matches)
-none_of p g rs n valid fine agree has denied r (Some rule) is = (readings_tell p g rs n r rule valid fine agree has is).1 (All-slice_get (λ x. IsRuleNo rs n x) p.rules r rule denied is)
+none_of p g rs n valid fine agree has denied r (Some rule) is = (readings_tell p g rs n r rule valid fine agree has is).1 (All-slice_get (λ x. IsRuleNo p.wide rs n x) p.rules r rule denied is)
 
 pub shown_may_happen : ShownMayHappen
 shown_may_happen p g rs bindings (Fire n r) valid fine agree shows active =

@@ -1,8 +1,8 @@
 -- Validity and its parts.
-use Rattle.std.proofs.Common.{ℕ, length}
+use Rattle.std.proofs.Common.{◌≡◌, ℕ, length, false}
 use Rattle.dactl_model.specs.declared.program.Rule.{Rule}
 use Rattle.dactl_model.specs.declared.program.Program.{Program}
-use Rattle.dactl_model.specs.Programs.{IsValid, IsValidRule}
+use Rattle.dactl_model.specs.Programs.{IsValid, IsValidRule, IsNarrowProgram}
 use Rattle.dactl_model.specs.Validity.{AreValidSymbols, AreSoundRules, HasSoundPattern, HasSoundVariables, HasSoundBody, IsSoundStart}
 
 pub rule_of_parts : (symbols r : ℕ) (rule : Rule) → HasSoundPattern symbols rule → HasSoundVariables rule → HasSoundBody symbols r rule → IsValidRule symbols r rule
@@ -16,6 +16,7 @@ rule_of_parts symbols r rule pattern variables body = record {
   body = body.body;
   group = body.group;
   delta = body.delta;
+  suspends = body.suspends;
 }
 
 pub pattern_of : (symbols r : ℕ) (rule : Rule) → IsValidRule symbols r rule → HasSoundPattern symbols rule
@@ -25,10 +26,11 @@ pub variables_of : (symbols r : ℕ) (rule : Rule) → IsValidRule symbols r rul
 variables_of symbols r rule v = record { few = v.few; variables = v.variables }
 
 pub body_of : (symbols r : ℕ) (rule : Rule) → IsValidRule symbols r rule → HasSoundBody symbols r rule
-body_of symbols r rule v = record { body = v.body; group = v.group; delta = v.delta }
+body_of symbols r rule v = record { body = v.body; group = v.group; delta = v.delta; suspends = v.suspends }
 
-pub valid_of_parts : (p : Program) → AreValidSymbols p.symbols → AreSoundRules (length p.symbols) p.rules → IsSoundStart (length p.symbols) p.start → IsValid p
-valid_of_parts p symbols rules start = record {
+pub valid_of_parts : (p : Program) → AreValidSymbols p.wide p.symbols → AreSoundRules (length p.symbols) p.rules → IsSoundStart (length p.symbols) p.start
+    → (p.wide ≡ false → IsNarrowProgram p) → IsValid p
+valid_of_parts p symbols rules start narrow = record {
   truths = symbols.truths;
   names = symbols.names;
   distinct = symbols.distinct;
@@ -43,9 +45,10 @@ valid_of_parts p symbols rules start = record {
   root = start.root;
   few_symbols = symbols.few;
   few_rules = rules.few;
+  narrow = narrow;
 }
 
-pub symbols_of : (p : Program) → IsValid p → AreValidSymbols p.symbols
+pub symbols_of : (p : Program) → IsValid p → AreValidSymbols p.wide p.symbols
 symbols_of p v = record { truths = v.truths; few = v.few_symbols; names = v.names; distinct = v.distinct }
 
 pub rules_of : (p : Program) → IsValid p → AreSoundRules (length p.symbols) p.rules

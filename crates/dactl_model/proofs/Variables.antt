@@ -48,7 +48,9 @@ pub bound_below : (count v : ℕ) (p : Pat) → Below count v p
 bound_below count v = pat_induction (Below count v) (record {
   any = below_opened count v Pat-F.Any (λ fine bound. cc);
   int = below_opened count v Pat-F.Int (λ fine bound. cc);
+  char = below_opened count v Pat-F.Char (λ fine bound. cc);
   literal = λ i. below_opened count v (Pat-F.Literal i) (λ fine bound. cc);
+  letter = λ c. below_opened count v (Pat-F.Letter c) (λ fine bound. cc);
   symbol = λ f args each. below_opened count v (Pat-F.Sym f args) (below_all count v args each);
   bind = λ w q ih. below_opened count v (Pat-F.Bind w q) (below_bind count v w q ih);
   union = λ q s ih1 ih2. below_opened count v (Pat-F.Union q s) (below_two count v q s ih1 ih2);
@@ -85,7 +87,9 @@ pub passes_below : (count : ℕ) (p : Pat) → Passes count p
 passes_below count = pat_induction (Passes count) (record {
   any = passes_opened count Pat-F.Any (λ below. refl);
   int = passes_opened count Pat-F.Int (λ below. refl);
+  char = passes_opened count Pat-F.Char (λ below. refl);
   literal = λ i. passes_opened count (Pat-F.Literal i) (λ below. refl);
+  letter = λ c. passes_opened count (Pat-F.Letter c) (λ below. refl);
   symbol = λ f args each. passes_opened count (Pat-F.Sym f args) (passes_all count args each);
   bind = λ w q ih. passes_opened count (Pat-F.Bind w q) (λ below. both_true _ _ (test_passes w count (below w (or_left _ _ (eq-eqb w w refl)))) (ih (λ v bound. below v (or_right (w == v) _ bound))));
   union = λ q s ih1 ih2. passes_opened count (Pat-F.Union q s) (passes_two count q s ih1 ih2);

@@ -24,15 +24,15 @@ abbrev pub begins_capital : List ℕ → Bool
 begins_capital [] = false
 begins_capital (c ∷ cs) = is_capital c
 
--- the keywords of the language
+-- the keywords of each language
 unfoldable pub keywords : List (List ℕ)
 keywords =
     codes "MODULE" ∷ codes "ENDMODULE" ∷ codes "IMPORTS" ∷ codes "SYMBOL" ∷ codes "PATTERN" ∷ codes "RULE" ∷ codes "INITIAL" ∷ codes "PUBLIC" ∷ codes "REWRITABLE" ∷ codes "OVERWRITABLE" ∷ codes "CREATABLE" ∷ codes "ANY" ∷ codes "INT" ∷ []
 
--- the name is a keyword
-unfoldable pub is_keyword : List ℕ → Bool
-is_keyword name = list_any (bytes_eq name) keywords
+-- the name is a keyword of the language, in which `CHAR` is one too or not
+unfoldable pub is_keyword : Bool → List ℕ → Bool
+is_keyword wide name = list_any (bytes_eq name) keywords || (wide && bytes_eq name (codes "CHAR"))
 
 -- the spelling of a name with a capital letter: letters, digits and '_', and no keyword
-abbrev pub is_upper_name : List ℕ → Bool
-is_upper_name name = begins_capital name && list_all is_word_byte name && not (is_keyword name)
+abbrev pub is_upper_name : Bool → List ℕ → Bool
+is_upper_name wide name = begins_capital name && list_all is_word_byte name && not (is_keyword wide name)

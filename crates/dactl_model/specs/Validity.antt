@@ -1,5 +1,5 @@
 -- The parts of a program's validity that tests answer.
-use Rattle.std.specs.Prelude.{◌≡◌, ◌≢◌, ℕ, ◌+◌, ◌^◌, ◌<◌, ◌≤◌, ◌↔◌, List, length, All, AllPairs, IsTrue, slice_get, Some}
+use Rattle.std.specs.Prelude.{◌≡◌, ◌≢◌, ℕ, Bool, ◌+◌, ◌^◌, ◌<◌, ◌≤◌, ◌↔◌, List, length, All, AllPairs, IsTrue, slice_get, Some}
 use Rattle.dactl_model.specs.declared.program.Pat.{Pat}
 use Rattle.dactl_model.specs.declared.program.Symbol.{Symbol}
 use Rattle.dactl_model.specs.declared.program.Rule.{Rule}
@@ -8,7 +8,7 @@ use Rattle.dactl_model.specs.declared.program.Start.{Start}
 use Rattle.dactl_model.specs.declared.program.Op.TheVariants as op
 use Rattle.dactl_model.specs.Binders.{binds, binders_in_place, head}
 use Rattle.dactl_model.specs.Names.{is_upper_name}
-use Rattle.dactl_model.specs.Programs.{IsValidRule, arithmetic_rule, symbols_below, IsBody, IsDelta, AreFreshNodes}
+use Rattle.dactl_model.specs.Programs.{IsValidRule, arithmetic_rule, symbols_below, IsBody, IsDelta, MaySuspend, AreFreshNodes}
 
 -- the variables of the pattern are the numbers below the count
 abbrev pub HasVariables : Pat → ℕ → Type 0
@@ -23,10 +23,10 @@ abbrev pub AreDistinctNames : List Symbol → Type 0
 AreDistinctNames symbols = AllPairs (λ a b. a.name ≢ b.name) symbols
 
 -- the symbols of a valid program
-pub record AreValidSymbols (symbols : List Symbol) : Type 0 where
+pub record AreValidSymbols (wide : Bool) (symbols : List Symbol) : Type 0 where
   pub truths : 7 ≤ length symbols
   pub few : length symbols < 2 ^ 31
-  pub names : All (λ s. IsTrue (is_upper_name s.name)) symbols
+  pub names : All (λ s. IsTrue (is_upper_name wide s.name)) symbols
   pub distinct : AreDistinctNames symbols
 
 -- the first rules are the arithmetic ones
@@ -54,6 +54,7 @@ pub record HasSoundBody (symbols number : ℕ) (rule : Rule) : Type 0 where
   pub body : IsBody symbols rule.variables rule.body
   pub group : rule.group + 1 < 2 ^ 31
   pub delta : IsDelta rule.body → number < 5
+  pub suspends : MaySuspend rule.pattern rule.body
 
 -- each rule is valid at its number
 abbrev pub AreValidRules : ℕ → List Rule → Type 0

@@ -1,10 +1,12 @@
 //! Tests of the new nodes, redirections and wakes of a contractum.
 ghost use Rattle.std.specs.Prelude.{◌≡◌, ◌≢◌, ◌<◌, ◌≤◌, ◌^◌, ◌↔◌, IsTrue, All, length};
-ghost use Rattle.dactl_model.specs.Programs.{IsMention, IsLeft, IsLabel, fresh_flags, IsFreshMark, IsFreshNode, fresh_arcs, AreFreshNodes, IsWritten, IsBody, IsDelta};
+ghost use Rattle.dactl_model.specs.Programs.{IsMention, IsLeft, IsLabel, fresh_flags, IsFreshMark, IsFreshNode, fresh_arcs, AreFreshNodes, IsWritten, IsBody, IsDelta, IsBesideRoot, MaySuspend, is_narrow_label, AreNarrowNodes, IsNarrowBody};
 ghost use Rattle.dactl_model.specs.Validity.{AreDistinctLefts};
 
 use crate::graph::{Label, Mark};
-use crate::program::{Body, FreshArc, FreshNode, Left, Mention, Move};
+use crate::integers::is_word;
+use crate::pattern_checks::binds_root;
+use crate::program::{Body, FreshArc, FreshNode, Left, Mention, Move, Pat};
 
 fn is_mention(variables: u8, fresh: usize, mention: Mention) -> bool
     ensures { IsTrue result ↔ IsMention variables fresh mention }
@@ -29,7 +31,7 @@ fn is_label(symbols: usize, label: Label, arcs: usize) -> bool
 {
     match label {
         Label::Symbol(symbol) => (symbol as usize) < symbols,
-        Label::Integer(_) => arcs == 0,
+        Label::Integer(_) | Label::Character(_) => arcs == 0,
     }
 }
 
@@ -156,6 +158,7 @@ pub fn is_body(symbols: usize, variables: u8, body: &Body) -> bool
             fresh,
             moves,
             wakes,
+            ..
         } => is_written(
             symbols,
             variables,
@@ -172,4 +175,59 @@ pub fn is_delta(body: &Body) -> bool
     ensures { IsTrue result ↔ IsDelta body.now }
 {
     matches!(body, Body::Delta(_))
+}
+
+fn is_beside_root(pattern: &Pat, left: Left) -> bool
+    ensures { IsTrue result ↔ IsBesideRoot pattern.now left }
+{
+    match left {
+        Left::Root => false,
+        Left::Variable(variable) => !binds_root(variable, pattern),
+    }
+}
+
+fn are_beside_root(pattern: &Pat, moves: &[Move]) -> bool
+    ensures { IsTrue result ↔ All (λ m. IsBesideRoot pattern.now m.from) moves.now }
+{
+    moves.iter().all(|step| is_beside_root(pattern, step.from))
+}
+
+/// Whether the body leaves its root where it makes it wait again, and asks for no more than 16
+/// notifications.
+pub fn may_suspend(pattern: &Pat, body: &Body) -> bool
+    ensures { IsTrue result ↔ MaySuspend pattern.now body.now }
+{
+    match body {
+        Body::Written { moves, suspend, .. } => {
+            *suspend <= 16 && (*suspend == 0 || are_beside_root(pattern, moves.as_slice()))
+        }
+        Body::Delta(_) => true,
+    }
+}
+
+fn is_narrow_label(label: Label) -> bool
+    ensures { result ≡ is_narrow_label label }
+{
+    match label {
+        Label::Symbol(_) => true,
+        Label::Integer(integer) => is_word(integer),
+        Label::Character(_) => false,
+    }
+}
+
+/// Whether each new node's label is a symbol or an integer of 64 bits.
+pub fn are_narrow_nodes(fresh: &[FreshNode]) -> bool
+    ensures { IsTrue result ↔ AreNarrowNodes fresh.now }
+{
+    fresh.iter().all(|node| is_narrow_label(node.label))
+}
+
+/// Whether each node that the body makes is labelled so.
+pub fn is_narrow_body(body: &Body) -> bool
+    ensures { IsTrue result ↔ IsNarrowBody body.now }
+{
+    match body {
+        Body::Written { fresh, .. } => are_narrow_nodes(fresh.as_slice()),
+        Body::Delta(_) => true,
+    }
 }

@@ -31,8 +31,8 @@ fn are_word_bytes(bytes: &[u8]) -> bool
 }
 
 #[tactic(auto, unfolding(crate::specs::Names::is_keyword, crate::specs::Names::keywords))]
-fn is_keyword(name: &[u8]) -> bool
-    ensures { result ≡ names.is_keyword name.now }
+fn is_keyword(wide: bool, name: &[u8]) -> bool
+    ensures { result ≡ names.is_keyword wide name.now }
 {
     name == b"MODULE".as_slice()
         || name == b"ENDMODULE".as_slice()
@@ -47,11 +47,13 @@ fn is_keyword(name: &[u8]) -> bool
         || name == b"CREATABLE".as_slice()
         || name == b"ANY".as_slice()
         || name == b"INT".as_slice()
+        || wide && name == b"CHAR".as_slice()
 }
 
-/// Whether the bytes are the spelling of a name with a capital letter.
-pub fn is_upper_name(name: &[u8]) -> bool
-    ensures { result ≡ names.is_upper_name name.now }
+/// Whether the bytes are the spelling of a name with a capital letter, in a language with
+/// characters or in one without.
+pub fn is_upper_name(wide: bool, name: &[u8]) -> bool
+    ensures { result ≡ names.is_upper_name wide name.now }
 {
-    begins_capital(name) && are_word_bytes(name) && !is_keyword(name)
+    begins_capital(name) && are_word_bytes(name) && !is_keyword(wide, name)
 }

@@ -5,6 +5,7 @@ ghost use Rattle.dactl_model.specs.Binders as spec;
 ghost use Rattle.dactl_model.specs.Programs as programs;
 ghost use Rattle.dactl_model.specs.Validity.{HasVariables};
 
+use crate::integers::is_word;
 use crate::program::Pat;
 
 /// The symbol at the head, found through binders and left sides of differences.
@@ -12,7 +13,8 @@ pub fn head(pattern: &Pat) -> Option<u32>
     ensures { result ≡ spec.head pattern.now }
 {
     match pattern {
-        Pat::Any | Pat::Int | Pat::Literal(_) | Pat::Union { .. } => None,
+        Pat::Any | Pat::Int | Pat::Char | Pat::Literal(_) | Pat::Letter(_) | Pat::Union { .. } =>
+            None,
         Pat::Sym { symbol, .. } => Some(*symbol),
         Pat::Bind { inner, .. } => head(inner.get()),
         Pat::Less { left, .. } => head(left.get()),
@@ -25,7 +27,7 @@ pub fn symbols_below(count: usize, pattern: &Pat) -> bool
     ensures { result ≡ programs.symbols_below count pattern.now }
 {
     match pattern {
-        Pat::Any | Pat::Int | Pat::Literal(_) => true,
+        Pat::Any | Pat::Int | Pat::Char | Pat::Literal(_) | Pat::Letter(_) => true,
         Pat::Sym { symbol, args } => {
             (*symbol as usize) < count && all_symbols_below(count, args.as_slice())
         }
@@ -57,7 +59,7 @@ fn variables_below(count: u8, pattern: &Pat) -> bool
     ensures { result ≡ spec.variables_below count pattern.now }
 {
     match pattern {
-        Pat::Any | Pat::Int | Pat::Literal(_) => true,
+        Pat::Any | Pat::Int | Pat::Char | Pat::Literal(_) | Pat::Letter(_) => true,
         Pat::Sym { args, .. } => all_variables_below(count, args.as_slice()),
         Pat::Bind { var, inner } => *var < count && variables_below(count, inner.get()),
         Pat::Union { left, right } => {
@@ -87,7 +89,7 @@ fn binds(variable: u8, pattern: &Pat) -> bool
     ensures { result ≡ spec.binds variable pattern.now }
 {
     match pattern {
-        Pat::Any | Pat::Int | Pat::Literal(_) => false,
+        Pat::Any | Pat::Int | Pat::Char | Pat::Literal(_) | Pat::Letter(_) => false,
         Pat::Sym { args, .. } => any_binds(variable, args.as_slice()),
         Pat::Bind { var, inner } => *var == variable || binds(variable, inner.get()),
         Pat::Union { left, right } => {
@@ -115,7 +117,7 @@ pub fn allows(pattern: &Pat, allowed: bool) -> bool
     ensures { result ≡ spec.allows pattern.now allowed }
 {
     match pattern {
-        Pat::Any | Pat::Int | Pat::Literal(_) => true,
+        Pat::Any | Pat::Int | Pat::Char | Pat::Literal(_) | Pat::Letter(_) => true,
         Pat::Sym { args, .. } => all_allow(args.as_slice(), allowed),
         Pat::Bind { inner, .. } => allowed && allows(inner.get(), allowed),
         Pat::Union { left, right } => allows(left.get(), false) && allows(right.get(), false),
@@ -152,4 +154,44 @@ pub fn has_variables(count: u8, pattern: &Pat) -> bool
     ensures { IsTrue result ↔ HasVariables pattern.now count }
 {
     variables_below(count, pattern) && binds_each(count, pattern)
+}
+
+/// Whether the variable stands for the node at which the pattern holds.
+pub fn binds_root(variable: u8, pattern: &Pat) -> bool
+    ensures { result ≡ spec.binds_root variable pattern.now }
+{
+    match pattern {
+        Pat::Any | Pat::Int | Pat::Char | Pat::Literal(_) | Pat::Letter(_) => false,
+        Pat::Sym { .. } | Pat::Union { .. } => false,
+        Pat::Bind { var, inner } => *var == variable || binds_root(variable, inner.get()),
+        Pat::Less { left, .. } => binds_root(variable, left.get()),
+    }
+}
+
+/// Whether the pattern has integers of 64 bits alone, and no character.
+#[cycle(narrow)]
+pub fn is_narrow(pattern: &Pat) -> bool
+    ensures { result ≡ programs.is_narrow pattern.now }
+{
+    match pattern {
+        Pat::Any | Pat::Int => true,
+        Pat::Char | Pat::Letter(_) => false,
+        Pat::Literal(literal) => is_word(*literal),
+        Pat::Sym { args, .. } => are_narrow(args.as_slice()),
+        Pat::Bind { inner, .. } => is_narrow(inner.get()),
+        Pat::Union { left, right } => is_narrow(left.get()) && is_narrow(right.get()),
+        Pat::Less { left, right } => is_narrow(left.get()) && is_narrow(right.get()),
+    }
+}
+
+#[cycle(narrow)]
+fn are_narrow(patterns: &[Pat]) -> bool
+    ensures { result ≡ list_all (λ b. b) (map programs.is_narrow patterns.now) }
+{
+    for pattern in patterns {
+        if !is_narrow(pattern) {
+            return false;
+        }
+    }
+    true
 }

@@ -2,7 +2,7 @@ ghost use Rattle.std.specs.Prelude.{IsTrue};
 ghost use Rattle.dactl_model.specs.Graphs.{IsSmall};
 
 use crate::Memory;
-use crate::arithmetic::arithmetic_rule;
+use crate::arithmetic::{arithmetic_rule, has_result, result_label};
 use crate::footprint::{Footprint, Woken};
 use crate::graph::{Arc, Graph, Label, Mark, Node, NodeId};
 use crate::program::{
@@ -131,6 +131,13 @@ fn woken_nodes_are_sorted(rt: HostRuntime) -> Result<(), Fail> {
     Ok(())
 }
 
+fn sum_of(x: i128, y: i128) -> Option<Label> {
+    if has_result(true, Op::Add, x, y) {
+        return Some(result_label(Op::Add, x, y));
+    }
+    None
+}
+
 /// `F[x:(ANY - 3)]`, where `F` has the number 0.
 fn pattern(alloc: Global) -> Result<Pat, Memory> {
     let inner = Boxed::new(
@@ -170,6 +177,7 @@ fn rule(alloc: Global) -> Result<Rule, Memory> {
             fresh: leaf(alloc)?,
             moves: Items::from_slice(alloc, &[to_new])?,
             wakes: Items::from_slice(alloc, &[0])?,
+            suspend: 0,
         },
     })
 }
@@ -191,6 +199,7 @@ fn program(alloc: Global) -> Result<Program, Memory> {
             fresh: leaf(alloc)?,
             root: 0,
         },
+        wide: true,
     })
 }
 
@@ -201,5 +210,27 @@ fn a_program_is_copied(rt: HostRuntime) -> Result<(), Fail> {
     assert_eq!(rt; copy.start.fresh.len(), 1);
     let last = copy.rules.as_slice().last().ok_or("no rule")?;
     assert_eq!(rt; last.variables, 1);
+    assert!(rt; copy.wide);
+    Ok(())
+}
+
+#[test]
+fn a_label_is_one_of_three(rt: HostRuntime) -> Result<(), Fail> {
+    let letter = Label::Character(b'a');
+    assert!(rt; letter.is_character() && letter.has_character(b'a'));
+    assert!(rt; !letter.is_integer() && !letter.has_integer(97));
+    assert!(rt; Label::Integer(3).has_integer(3) && Label::Symbol(3).has_symbol(3));
+    assert_eq!(rt; Label::Integer(3).integer(), 3);
+    Ok(())
+}
+
+#[test]
+fn a_result_lies_in_the_range_of_the_program(rt: HostRuntime) -> Result<(), Fail> {
+    let most: i128 = 0x7fff_ffff_ffff_ffff;
+    assert!(rt; !has_result(false, Op::Add, most, 1));
+    assert!(rt; has_result(true, Op::Add, most, 1));
+    assert!(rt; !has_result(true, Op::Add, i128::MAX, 1));
+    assert!(rt; has_result(false, Op::Lt, most, 1));
+    assert_eq!(rt; sum_of(40, 2), Some(Label::Integer(42)));
     Ok(())
 }

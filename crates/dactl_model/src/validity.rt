@@ -1,15 +1,17 @@
 //! The test of a program's validity.
-ghost use Rattle.std.specs.Prelude.{◌≡◌, ◌≢◌, ◌+◌, ◌<◌, ◌≤◌, ◌^◌, ◌↔◌, IsTrue, All, Some, length, slice_get};
+ghost use Rattle.std.specs.Prelude.{◌≡◌, ◌≢◌, ◌+◌, ◌<◌, ◌≤◌, ◌^◌, ◌↔◌, false, IsTrue, All, Some, length, slice_get};
 ghost use Rattle.dactl_model.specs.declared.program.Pat.TheOpen.{Pat-F};
 ghost use Rattle.dactl_model.specs.declared.program.Pat.TheViews.{roll-Pat};
 ghost use Rattle.dactl_model.specs.Binders as binders;
 ghost use Rattle.dactl_model.specs.Names.{is_upper_name};
-ghost use Rattle.dactl_model.specs.Programs.{integer_binder, arithmetic_pattern, arithmetic_rule, symbols_below, IsValidRule, IsValid, IsDelta, IsBody};
+ghost use Rattle.dactl_model.specs.Programs.{integer_binder, arithmetic_pattern, arithmetic_rule, symbols_below, IsValidRule, IsValid, IsDelta, IsBody, IsNarrowRule, IsNarrowProgram};
 ghost use Rattle.dactl_model.specs.Validity.{HasVariables, AreDistinctNames, AreValidSymbols, HasArithmetic, HasSoundPattern, HasSoundVariables, HasSoundBody, AreValidRules, AreSoundRules, DoGroupsRise, IsSoundStart};
 
-use crate::contractum_checks::{are_fresh_nodes, is_body, is_delta};
+use crate::contractum_checks::{
+    are_fresh_nodes, are_narrow_nodes, is_body, is_delta, is_narrow_body, may_suspend,
+};
 use crate::names;
-use crate::pattern_checks::{allows, has_variables, head, symbols_below};
+use crate::pattern_checks::{allows, has_variables, head, is_narrow, symbols_below};
 use crate::program::{Body, Op, Pat, Program, Rule, Start, Symbol};
 
 fn is_int(pattern: &Pat) -> bool
@@ -113,6 +115,7 @@ fn has_sound_body(symbols: usize, number: usize, rule: &Rule) -> bool
     is_body(symbols, rule.variables, &rule.body)
         && rule.group < 0x7fff_ffff
         && may_have(number, &rule.body)
+        && may_suspend(&rule.pattern, &rule.body)
 }
 
 fn is_valid_rule(symbols: usize, number: usize, rule: &Rule) -> bool
@@ -163,20 +166,18 @@ fn are_distinct_names(symbols: &[Symbol]) -> bool
     true
 }
 
-fn are_names(symbols: &[Symbol]) -> bool
-    ensures { IsTrue result ↔ All (λ s. IsTrue (is_upper_name s.name)) symbols.now }
+fn are_names(wide: bool, symbols: &[Symbol]) -> bool
+    ensures { IsTrue result ↔ All (λ s. IsTrue (is_upper_name wide s.name)) symbols.now }
 {
-    symbols
-        .iter()
-        .all(|symbol| names::is_upper_name(symbol.name.as_slice()))
+    symbols.iter().all(|symbol| names::is_upper_name(wide, symbol.name.as_slice()))
 }
 
-fn are_valid_symbols(symbols: &[Symbol]) -> bool
-    ensures { IsTrue result ↔ AreValidSymbols symbols.now }
+fn are_valid_symbols(wide: bool, symbols: &[Symbol]) -> bool
+    ensures { IsTrue result ↔ AreValidSymbols wide symbols.now }
 {
     7 <= symbols.len()
         && symbols.len() < 0x8000_0000
-        && are_names(symbols)
+        && are_names(wide, symbols)
         && are_distinct_names(symbols)
 }
 
@@ -199,13 +200,36 @@ fn is_sound_start(symbols: usize, start: &Start) -> bool
     are_fresh_nodes(symbols, 0, fresh) && (start.root as usize) < fresh.len()
 }
 
+fn is_narrow_rule(rule: &Rule) -> bool
+    ensures { IsTrue result ↔ IsNarrowRule rule.now }
+{
+    is_narrow(&rule.pattern) && is_narrow_body(&rule.body)
+}
+
+fn is_narrow_program(program: &Program) -> bool
+    ensures { IsTrue result ↔ IsNarrowProgram program.now }
+{
+    program.rules.as_slice().iter().all(is_narrow_rule)
+        && are_narrow_nodes(program.start.fresh.as_slice())
+}
+
+/// Whether the program has no more than 64-bit integers, where it is not wide.
+fn is_in_language(program: &Program) -> bool
+    ensures { IsTrue result ↔ (program.now.wide ≡ false → IsNarrowProgram program.now) }
+{
+    program.wide || is_narrow_program(program)
+}
+
 /// Whether the program is valid. Takes no memory; the time is that of reading the program, and of
 /// comparing each two of its symbols' names.
 pub fn is_valid(program: &Program) -> bool
     ensures { IsTrue result ↔ IsValid program.now }
 {
     let symbols = program.symbols.as_slice();
-    if !are_valid_symbols(symbols) {
+    if !are_valid_symbols(program.wide, symbols) {
+        return false;
+    }
+    if !is_in_language(program) {
         return false;
     }
     are_sound_rules(symbols.len(), program.rules.as_slice())

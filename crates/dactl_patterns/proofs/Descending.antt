@@ -1,13 +1,13 @@
 -- Where levels descend, a named pattern that names none of its own level is in no cycle; and levels that are looked through descend.
 use Rattle.std.proofs.Common.{◌≡◌, ℕ, zero, suc, ◌+◌, ◌≤◌, inl, List, [], ◌∷◌, Option, Some, None, get_or, refl, sym, ap, ◌∙◌, subst, arith}
 use Rattle.std.specs.Prelude.{All, Any, Contains, slice_get, option_and_then}
-use Rattle.dactl_syntax.specs.declared.tree.PatternTree.{PatternTree}
-use Rattle.dactl_syntax.specs.declared.tree.Item.{Item}
-use Rattle.dactl_syntax.specs.declared.tree.Item.TheVariants as item
-use Rattle.dactl_syntax.specs.declared.tree.Module.{Module}
-use Rattle.dactl_syntax.specs.declared.tree.Text.{Text}
-use Rattle.dactl_syntax.specs.Declarations.{item_pattern, named_pattern}
-use Rattle.dactl_syntax.specs.Meaning.{NamedPattern, Reaches}
+use Rattle.dactl_meaning.specs.declared.tree.PatternTree.{PatternTree}
+use Rattle.dactl_meaning.specs.declared.tree.Item.{Item}
+use Rattle.dactl_meaning.specs.declared.tree.Item.TheVariants as item
+use Rattle.dactl_meaning.specs.declared.tree.Module.{Module}
+use Rattle.dactl_meaning.specs.declared.tree.Text.{Text}
+use Rattle.dactl_meaning.specs.Declarations.{item_pattern, named_pattern}
+use Rattle.dactl_meaning.specs.Meaning.{NamedPattern, Reaches}
 use Rattle.dactl_symbols.proofs.Sooner.{Any-cons}
 use Rattle.dactl_patterns.specs.declared.declarations.Declared.{Declared}
 use Rattle.dactl_patterns.specs.Cycling.{named_by, named_from, ReachesItself}

@@ -1,13 +1,21 @@
 -- The names of a list each once, added one after the other.
-use Rattle.std.proofs.Common.{◌≡◌, ℕ, Bool, true, false, List, [], ◌∷◌, ◌++◌, refl, sym, ap, ◌∙◌, append_assoc}
+use Rattle.std.proofs.Common.{◌≡◌, ℕ, ◌+◌, ◌<◌, Bool, true, false, cond, List, [], ◌∷◌, ◌++◌, length, drop, get_or, refl, sym, ap, ◌∙◌, append_assoc}
 use Rattle.std.specs.Prelude.{not, ◌&&◌, ◌||◌, if◌then◌else◌, filter}
 use Rattle.std.specs.Borrow.{Bor}
-use Rattle.std.specs.List.{list_any}
+use Rattle.std.specs.BTreeSet.{BTreeSet, Updates}
+use Rattle.std.specs.Cmp.Lexicographic.{slice_cmp}
+use Rattle.std.specs.Ordering.{nat_cmp}
 use Rattle.std.specs.Str.{bytes_eq}
-use Rattle.std.proofs.lemmas.List.{append-nil, map-append}
+use Rattle.std.proofs.lemmas.List.{append-nil, drop_more}
+use Rattle.std.proofs.lemmas.Map.Text.{is_eq-slice_cmp}
 use Rattle.std.proofs.lemmas.Slice.Eq.{bytes_eq-Decides}
-use Rattle.dactl_syntax.specs.Expansion.{is_among, each_once}
-use Rattle.dactl_patterns.specs.Naming.{words, with_name}
+use Rattle.dactl_meaning.specs.Expansion.{is_among, each_once}
+use Rattle.dactl_patterns.specs.declared.occurrences.Occurrence.{Occurrence}
+use Rattle.dactl_patterns.specs.Naming.{has_word, with_word, names_in}
+
+-- the names and this one, where it is not there yet
+abbrev pub with_name : List (List ℕ) → List ℕ → List (List ℕ)
+with_name names w = if is_among names w then names else names ++ w ∷ []
 
 -- the names, and those of the list that are new, one after the other
 abbrev pub distinct_from : List (List ℕ) → List (List ℕ) → List (List ℕ)
@@ -89,29 +97,57 @@ every (w ∷ more) = ap (λ k. w ∷ k) (every more)
 pub distinct_all : (names : List (List ℕ)) → distinct_from [] names ≡ each_once names
 distinct_all names = distinct_is [] names ∙ every (each_once names)
 
--- ---- names behind references
+-- ---- a set of the names
 
-same_both_ways : (w v : List ℕ) → bytes_eq w v ≡ bytes_eq v w
-same_both_ways w v = by_both (bytes_eq w v) (bytes_eq v w) refl refl
+-- the set has the names, and one more
+pub held_new : (had next : List ℕ → Bool) (names : List (List ℕ)) (w : List ℕ) → had ≡ is_among names → next ≡ with_word had w → next ≡ is_among (names ++ w ∷ [])
+held_new had next names w held is = is ∙ (λ j v. held j v || bytes_eq w v) ∙ (λ j v. sym (among-push names w v) j)
+
+-- a name that is one of them already is no more to tell
+pub among_again : (names : List (List ℕ)) (w v : List ℕ) → is_among names w ≡ true → (is_among names v || bytes_eq w v) ≡ is_among names v
+among_again names w v among =
+    by (bytes_eq w v) refl
   where
-    by_both : (a b : Bool) → bytes_eq w v ≡ a → bytes_eq v w ≡ b → a ≡ b
-    by_both true true e f = refl
-    by_both true false e f = let one = (bytes_eq-Decides v w).1 (sym ((bytes_eq-Decides w v).0 e)) in sym one ∙ f
-    by_both false true e f = let one = (bytes_eq-Decides w v).1 (sym ((bytes_eq-Decides v w).0 f)) in sym e ∙ one
-    by_both false false e f = refl
+    by : (b : Bool) → bytes_eq w v ≡ b → (is_among names v || b) ≡ is_among names v
+    by true same = let there : is_among names v ≡ true = ap (is_among names) (sym ((bytes_eq-Decides w v).0 same)) ∙ among in ap (λ b. b || true) there ∙ sym there
+    by false differs = or_false (is_among names v)
 
-pub among_references : (names : List (Bor (List ℕ))) (name : Bor (List ℕ)) → list_any (λ k. bytes_eq name.now k.now) names ≡ is_among (words names) name.now
-among_references [] name = refl
-among_references (k ∷ names) name =
-    ap (λ b. b || list_any (λ k. bytes_eq name.now k.now) names) (same_both_ways name.now k.now)
-    ∙ ap (λ b. bytes_eq k.now name.now || b) (among_references names name)
+pub held_again : (had next : List ℕ → Bool) (names : List (List ℕ)) (w : List ℕ) → had ≡ is_among names → next ≡ with_word had w → is_among names w ≡ true → next ≡ is_among names
+held_again had next names w held is among = is ∙ (λ j v. held j v || bytes_eq w v) ∙ (λ j v. among_again names w v among j)
 
-added_by : (names : List (Bor (List ℕ))) (name : Bor (List ℕ)) (b : Bool) → words (if b then names else names ++ name ∷ []) ≡ (if b then words names else words names ++ name.now ∷ [])
-added_by names name true = refl
-added_by names name false = map-append (λ (k : Bor (List ℕ)). k.now) names (name ∷ [])
+cond_or : (a b : Bool) → cond a true b ≡ (b || a)
+cond_or true true = refl
+cond_or true false = refl
+cond_or false b = sym (or_false b)
 
--- a name that is inserted behind a reference is added
-pub inserted_name : (names new : List (Bor (List ℕ))) (name : Bor (List ℕ)) → new ≡ (if list_any (λ k. bytes_eq name.now k.now) names then names else names ++ name ∷ []) → words new ≡ with_name (words names) name.now
-inserted_name names new name is =
-    ap words is ∙ added_by names name (list_any (λ k. bytes_eq name.now k.now) names)
-    ∙ ap (λ b. if b then words names else words names ++ name.now ∷ []) (among_references names name)
+-- what a set has after a name is put in
+pub inserted_word : (old new : BTreeSet (Bor (List ℕ))) (name : Bor (List ℕ)) → Updates (λ x y. slice_cmp nat_cmp x.now y.now) old new name true → has_word new ≡ with_word (has_word old) name.now
+inserted_word old new name updates = λ j w. by w j
+  where
+    by : (w : List ℕ) → has_word new w ≡ with_word (has_word old) name.now w
+    by w =
+        updates.0 (record { ref_ptr = (0, 0); now = w })
+        ∙ ap (λ b. cond b true (has_word old w)) (is_eq-slice_cmp name.now w)
+        ∙ cond_or (bytes_eq name.now w) (has_word old w)
+
+pub is_false : (b : Bool) → not b ≡ true → b ≡ false
+is_false true e = cc
+is_false false e = refl
+
+pub is_true : (b : Bool) → not b ≡ false → b ≡ true
+is_true true e = refl
+is_true false e = cc
+
+-- ---- one place of a variable after the other
+
+module _ (occurrences : List Occurrence) (i : ℕ) (x : Occurrence) (names whole : List (List ℕ)) (below : i < length occurrences) (is : x ≡ get_or occurrences i x) (so_far : distinct_from names (names_in (drop i occurrences)) ≡ whole) where
+  here : distinct_from (with_name names x.name.now.text) (names_in (drop (i + 1) occurrences)) ≡ whole
+  here = ap (λ (y : Occurrence). distinct_from (with_name names y.name.now.text) (names_in (drop (i + 1) occurrences))) is ∙ ap (λ (l : List Occurrence). distinct_from names (names_in l)) (sym (drop_more occurrences i x below)) ∙ so_far
+
+  -- its name is new
+  pub distinct_new : is_among names x.name.now.text ≡ false → distinct_from (names ++ x.name.now.text ∷ []) (names_in (drop (i + 1) occurrences)) ≡ whole
+  distinct_new new = ap (λ (b : Bool). distinct_from (if b then names else names ++ x.name.now.text ∷ []) (names_in (drop (i + 1) occurrences))) (sym new) ∙ here
+
+  -- its name is one of them
+  pub distinct_again : is_among names x.name.now.text ≡ true → distinct_from names (names_in (drop (i + 1) occurrences)) ≡ whole
+  distinct_again known = ap (λ (b : Bool). distinct_from (if b then names else names ++ x.name.now.text ∷ []) (names_in (drop (i + 1) occurrences))) (sym known) ∙ here

@@ -6,15 +6,15 @@ use Rattle.dactl_model.specs.declared.program.Pat.{Pat}
 use Rattle.dactl_model.specs.declared.program.Pat.TheOpen.{Pat-F}
 use Rattle.dactl_model.specs.declared.program.Pat.TheViews.{roll-Pat}
 use Rattle.dactl_model.specs.declared.program.Pat.TheFolds.{fold-roll-Pat}
-use Rattle.dactl_syntax.specs.declared.tree.Name.{Name}
-use Rattle.dactl_syntax.specs.declared.tree.Sign.{Sign}
-use Rattle.dactl_syntax.specs.declared.tree.Sign.TheVariants as signs
-use Rattle.dactl_syntax.specs.declared.tree.PatternTree.{PatternTree}
-use Rattle.dactl_syntax.specs.declared.tree.PatternTree.TheVariants.{rolls-Any, rolls-Int, rolls-Integer, rolls-Sym, rolls-Variable, rolls-Binder, rolls-Chain}
-use Rattle.dactl_syntax.specs.declared.tree.PatternTree.TheVariants as p
-use Rattle.dactl_syntax.specs.Sight.{Seen, SeenSymbol, SeenPattern}
-use Rattle.dactl_syntax.specs.Expansion.{at_name, at_variable, join, chain, expansion_level, expansion_by, pattern_nodes, pattern_nodes_level}
-use Rattle.dactl_patterns.proofs.Trees.{fold_any, fold_int, fold_integer, fold_symbol, fold_variable, fold_binder, fold_chain}
+use Rattle.dactl_meaning.specs.declared.tree.Name.{Name}
+use Rattle.dactl_meaning.specs.declared.tree.Sign.{Sign}
+use Rattle.dactl_meaning.specs.declared.tree.Sign.TheVariants as signs
+use Rattle.dactl_meaning.specs.declared.tree.PatternTree.{PatternTree}
+use Rattle.dactl_meaning.specs.declared.tree.PatternTree.TheVariants.{rolls-Any, rolls-Int, rolls-Char, rolls-Integer, rolls-Letter, rolls-Sym, rolls-Variable, rolls-Binder, rolls-Chain}
+use Rattle.dactl_meaning.specs.declared.tree.PatternTree.TheVariants as p
+use Rattle.dactl_meaning.specs.Sight.{Seen, SeenSymbol, SeenPattern}
+use Rattle.dactl_meaning.specs.Expansion.{at_name, at_variable, join, chain, expansion_level, expansion_by, pattern_nodes, pattern_nodes_level}
+use Rattle.dactl_patterns.proofs.Trees.{fold_any, fold_int, fold_char, fold_integer, fold_letter, fold_symbol, fold_variable, fold_binder, fold_chain}
 use Rattle.dactl_patterns.proofs.Induction.{Each, EachLink, pattern_induction}
 
 -- ---- expansions
@@ -100,7 +100,9 @@ module _ (look : List ℕ → Option Seen) (named : ℕ → ℕ → Pat) (variab
   same_nodes = pattern_induction SameNodes (record {
     any = subst SameNodes (sym rolls-Any) (ap pattern_nodes (fold_any (expansion_level look named (Some variables)) ∙ sym (fold_any (expansion_level look named None))));
     int = subst SameNodes (sym rolls-Int) (ap pattern_nodes (fold_int (expansion_level look named (Some variables)) ∙ sym (fold_int (expansion_level look named None))));
+    char = subst SameNodes (sym rolls-Char) (ap pattern_nodes (fold_char (expansion_level look named (Some variables)) ∙ sym (fold_char (expansion_level look named None))));
     integer = λ value. subst SameNodes (sym (rolls-Integer value)) (ap pattern_nodes (fold_integer (expansion_level look named (Some variables)) value ∙ sym (fold_integer (expansion_level look named None) value)));
+    letter = λ value. subst SameNodes (sym (rolls-Letter value)) (ap pattern_nodes (fold_letter (expansion_level look named (Some variables)) value ∙ sym (fold_letter (expansion_level look named None) value)));
     symbol = λ name args all. subst SameNodes (sym (rolls-Sym name args))
         (ap pattern_nodes (expands_symbol look named (Some variables) name args) ∙ same_named (look name.text) args all ∙ ap pattern_nodes (sym (expands_symbol look named None name args)));
     variable = λ name. subst SameNodes (sym (rolls-Variable name))

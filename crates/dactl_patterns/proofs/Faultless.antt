@@ -8,18 +8,18 @@ use Rattle.dactl_base.specs.declared.refusal.Place.{Place}
 use Rattle.dactl_base.specs.declared.refusal.Kind.TheVariants as kinds
 use Rattle.dactl_base.specs.declared.refusal.Refusal.{Refusal}
 use Rattle.dactl_model.specs.declared.program.Pat.{Pat}
-use Rattle.dactl_syntax.specs.declared.tree.Name.{Name}
-use Rattle.dactl_syntax.specs.declared.tree.PatternTree.{PatternTree}
-use Rattle.dactl_syntax.specs.declared.tree.Text.{Text}
-use Rattle.dactl_syntax.specs.Sight.{sees}
-use Rattle.dactl_syntax.specs.Expansion.{Occurrence, is_among, each_once, occurrences, variables_of, named_count, named_expansion, expansion_by, pattern_nodes, pattern_expansion}
-use Rattle.dactl_syntax.specs.RuleFaults.{again, place_of, each_at, at_if, is_too_wide, binders_in_choice, named_twice_in_pattern, wide_in_pattern, pattern_faults}
+use Rattle.dactl_meaning.specs.declared.tree.Name.{Name}
+use Rattle.dactl_meaning.specs.declared.tree.PatternTree.{PatternTree}
+use Rattle.dactl_meaning.specs.declared.tree.Text.{Text}
+use Rattle.dactl_meaning.specs.Sight.{sees}
+use Rattle.dactl_meaning.specs.Expansion.{Occurrence, is_among, each_once, occurrences, variables_of, named_count, named_expansion, expansion_by, pattern_nodes, pattern_expansion}
+use Rattle.dactl_meaning.specs.RuleFaults.{again, place_of, each_at, at_if, is_too_wide, binders_in_choice, named_twice_in_pattern, wide_in_pattern, pattern_faults}
 use Rattle.dactl_patterns.specs.declared.occurrences.Occurrence as code
 use Rattle.dactl_patterns.specs.Occurring.{seen}
-use Rattle.dactl_patterns.specs.Naming.{names_in, with_name}
-use Rattle.dactl_patterns.specs.TreeFaults.{fault_if, binder_fault, twice_faults, faults_with}
+use Rattle.dactl_patterns.specs.Naming.{names_in, with_word}
+use Rattle.dactl_patterns.specs.TreeFaults.{fault_if, binder_fault, none_given, twice_faults, faults_with}
 use Rattle.dactl_patterns.specs.Expanded.{expansion_as, variables_counted, is_wide, IsExpansion}
-use Rattle.dactl_patterns.proofs.Distinct.{among-push}
+use Rattle.dactl_patterns.proofs.Distinct.{among_again}
 use Rattle.dactl_patterns.proofs.Expansions.{same_nodes}
 
 binders_are : (named : Bool) (os : List Occurrence) → flat_map (binder_fault named) os ≡ each_at kinds.BinderInChoice (map (λ o. place_of o.name) (filter (λ o. named || o.in_choice) os))
@@ -35,9 +35,9 @@ whole_are : (large : Bool) (place : Place) → fault_if large kinds.TooWide plac
 whole_are true place = refl
 whole_are false place = refl
 
--- the names that stand before in either order
-SameNames : List (List ℕ) → List (List ℕ) → Type 0
-SameNames some others = (w : List ℕ) → is_among some w ≡ is_among others w
+-- the test tells these names
+SameNames : (List ℕ → Bool) → List (List ℕ) → Type 0
+SameNames had names = (w : List ℕ) → had w ≡ is_among names w
 
 or_swapped : (a b : Bool) → (a || b) ≡ (b || a)
 or_swapped true true = refl
@@ -45,9 +45,13 @@ or_swapped true false = refl
 or_swapped false true = refl
 or_swapped false false = refl
 
-same-push : (some others : List (List ℕ)) (w : List ℕ) → SameNames some others → SameNames (some ++ w ∷ []) (w ∷ others)
+same-push : (had : List ℕ → Bool) (names : List (List ℕ)) (w : List ℕ) → SameNames had names → SameNames (with_word had w) (w ∷ names)
 unfolding SameNames
-same-push some others w same = λ v. among-push some w v ∙ or_swapped (is_among some v) (bytes_eq w v) ∙ ap (λ b. bytes_eq w v || b) (same v)
+same-push had names w same = λ v. or_swapped (had v) (bytes_eq w v) ∙ ap (λ b. bytes_eq w v || b) (same v)
+
+same-again : (had : List ℕ → Bool) (names : List (List ℕ)) (w : List ℕ) → is_among names w ≡ true → SameNames had names → SameNames (with_word had w) names
+unfolding SameNames
+same-again had names w among same = λ v. ap (λ b. b || bytes_eq w v) (same v) ∙ among_again names w v among
 
 abbrev given_names : List Occurrence → List Name
 given_names os = map (λ o. o.name) (filter (λ o. o.given) os)
@@ -55,19 +59,19 @@ given_names os = map (λ o. o.name) (filter (λ o. o.given) os)
 abbrev told : List Name → List Refusal
 told names = each_at kinds.NamedTwice (map place_of names)
 
-twice_are : (some others : List (List ℕ)) (os : List Occurrence) → SameNames some others → twice_faults some os ≡ told (again others (given_names os))
+twice_are : (had : List ℕ → Bool) (names : List (List ℕ)) (os : List Occurrence) → SameNames had names → twice_faults had os ≡ told (again names (given_names os))
 unfolding SameNames
-twice_are some others [] same = refl
-twice_are some others (o ∷ os) same =
+twice_are had names [] same = refl
+twice_are had names (o ∷ os) same =
     let w = o.name.text in
-    let stays = twice_are some others os same in
-    let grows = twice_are (some ++ w ∷ []) (w ∷ others) os (same-push some others w same) in
-    elim o.given as (λ g. fault_if (g && is_among some w) kinds.NamedTwice o.name.place ++ twice_faults (if g then with_name some w else some) os ≡ told (again others (map (λ o. o.name) (if g then o ∷ filter (λ o. o.given) os else filter (λ o. o.given) os)))) [
+    let stays = twice_are had names os same in
+    let grows = twice_are (with_word had w) (w ∷ names) os (same-push had names w same) in
+    elim o.given as (λ g. fault_if (g && had w) kinds.NamedTwice o.name.place ++ twice_faults (if g then with_word had w else had) os ≡ told (again names (map (λ o. o.name) (if g then o ∷ filter (λ o. o.given) os else filter (λ o. o.given) os)))) [
       | false ↦ stays
-      | true ↦ (rw (← same w) (elim (is_among some w) as (λ b. fault_if b kinds.NamedTwice o.name.place ++ twice_faults (if b then some else some ++ w ∷ []) os ≡ told (if b then o.name ∷ again others (given_names os) else again (w ∷ others) (given_names os))) [
-        | true ↦ ap (λ k. record { kind = kinds.NamedTwice; place = o.name.place } ∷ k) stays
-        | false ↦ grows
-      ]))
+      | true ↦ (rw (same w) (elim (is_among names w) as (λ b. is_among names w ≡ b → fault_if b kinds.NamedTwice o.name.place ++ twice_faults (with_word had w) os ≡ told (if b then o.name ∷ again names (given_names os) else again (w ∷ names) (given_names os))) [
+        | true ↦ λ e. ap (λ k. record { kind = kinds.NamedTwice; place = o.name.place } ∷ k) (twice_are (with_word had w) names os (same-again had names w e same))
+        | false ↦ λ e. grows
+      ] refl))
     ]
 
 -- the faults of a pattern, one kind after the other
@@ -78,9 +82,9 @@ faults_are text owner named large place tree is =
     let b = each_at kinds.TooWide (wide_in_pattern tree) in
     let c = each_at kinds.TooWide (at_if large place.byte) in
     let d = each_at kinds.NamedTwice (named_twice_in_pattern tree) in
-    ap (λ k. k ++ (b ++ (fault_if large kinds.TooWide place ++ twice_faults [] (occurrences tree)))) (binders_are named (occurrences tree))
-    ∙ ap (λ k. a ++ (b ++ (k ++ twice_faults [] (occurrences tree)))) (whole_are large place)
-    ∙ ap (λ k. a ++ (b ++ (c ++ k))) (twice_are [] [] (occurrences tree) (λ w. refl))
+    ap (λ k. k ++ (b ++ (fault_if large kinds.TooWide place ++ twice_faults none_given (occurrences tree)))) (binders_are named (occurrences tree))
+    ∙ ap (λ k. a ++ (b ++ (k ++ twice_faults none_given (occurrences tree)))) (whole_are large place)
+    ∙ ap (λ k. a ++ (b ++ (c ++ k))) (twice_are none_given [] (occurrences tree) (λ w. refl))
     ∙ sym (append_assoc a b (c ++ d)) ∙ sym (append_assoc (a ++ b) c d)
     ∙ ap (λ l. ((a ++ b) ++ each_at kinds.TooWide (at_if l place.byte)) ++ d) is
 

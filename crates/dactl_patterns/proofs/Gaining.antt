@@ -7,7 +7,7 @@ use Rattle.std.proofs.lemmas.List.{append-nil, take_more}
 use Rattle.std.proofs.lemmas.List.Elements.{Contains-append_left, Contains-push, Contains-push_cases}
 use Rattle.indexmap.specs.IndexSet.{insert_key}
 use Rattle.indexmap.proofs.CallerLemmas.{Contains-list_any}
-use Rattle.dactl_syntax.specs.Meaning.{NamedPattern}
+use Rattle.dactl_meaning.specs.Meaning.{NamedPattern}
 use Rattle.dactl_patterns.specs.Cycling.{Gains}
 
 pub none_in : {A : Type 0} (x : A) → Contains [] x → ⊥

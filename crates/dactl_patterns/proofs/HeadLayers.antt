@@ -5,15 +5,15 @@ use Rattle.dactl_model.specs.declared.program.Pat.TheOpen.{Pat-F}
 use Rattle.dactl_model.specs.declared.program.Pat.TheViews.{roll-Pat}
 use Rattle.dactl_model.specs.declared.program.Pat.TheFolds.{fold-roll-Pat}
 use Rattle.dactl_model.specs.Binders.{head, head_level}
-use Rattle.dactl_syntax.specs.declared.tree.Name.{Name}
-use Rattle.dactl_syntax.specs.declared.tree.Sign.{Sign}
-use Rattle.dactl_syntax.specs.declared.tree.Sign.TheVariants as signs
-use Rattle.dactl_syntax.specs.declared.tree.PatternTree.{PatternTree}
-use Rattle.dactl_syntax.specs.declared.tree.PatternTree.TheVariants as p
-use Rattle.dactl_syntax.specs.declared.tree.PatternTree.TheOpen.{PatternTree-F}
-use Rattle.dactl_syntax.specs.Sight.{Seen}
-use Rattle.dactl_syntax.specs.Expansion.{is_plus, has_plus, at_name, at_variable, join, chain, expansion_level, expansion_by}
-use Rattle.dactl_patterns.proofs.Trees.{fold_symbol, fold_variable, fold_binder, fold_chain, fold_any, fold_int, fold_integer}
+use Rattle.dactl_meaning.specs.declared.tree.Name.{Name}
+use Rattle.dactl_meaning.specs.declared.tree.Sign.{Sign}
+use Rattle.dactl_meaning.specs.declared.tree.Sign.TheVariants as signs
+use Rattle.dactl_meaning.specs.declared.tree.PatternTree.{PatternTree}
+use Rattle.dactl_meaning.specs.declared.tree.PatternTree.TheVariants as p
+use Rattle.dactl_meaning.specs.declared.tree.PatternTree.TheOpen.{PatternTree-F}
+use Rattle.dactl_meaning.specs.Sight.{Seen}
+use Rattle.dactl_meaning.specs.Expansion.{is_plus, has_plus, at_name, at_variable, join, chain, expansion_level, expansion_by}
+use Rattle.dactl_patterns.proofs.Trees.{fold_symbol, fold_variable, fold_binder, fold_chain, fold_any, fold_int, fold_char, fold_integer, fold_letter}
 use Rattle.dactl_patterns.proofs.Layers.{plus_kept}
 
 -- ---- one layer of an expansion
@@ -52,8 +52,14 @@ module _ (look : List ℕ → Option Seen) (expansion : ℕ → ℕ → Pat) (va
   pub head_int : head (of p.Int) ≡ None
   head_int = ap head (fold_int level) ∙ fold-roll-Pat (Option ℕ) head_level Pat-F.Int
 
+  pub head_char : head (of p.Char) ≡ None
+  head_char = ap head (fold_char level) ∙ fold-roll-Pat (Option ℕ) head_level Pat-F.Char
+
   pub head_integer : (value : ℤ) → head (of (p.Integer value)) ≡ None
   head_integer value = ap head (fold_integer level value) ∙ fold-roll-Pat (Option ℕ) head_level (Pat-F.Literal value)
+
+  pub head_letter : (value : ℕ) → head (of (p.Letter value)) ≡ None
+  head_letter value = ap head (fold_letter level value) ∙ fold-roll-Pat (Option ℕ) head_level (Pat-F.Letter value)
 
   pub head_variable : (name : Name) → head (of (p.Variable name)) ≡ None
   head_variable name = ap head (fold_variable level name) ∙ head_bound variables name.text (roll-Pat Pat-F.Any) ∙ fold-roll-Pat (Option ℕ) head_level Pat-F.Any

@@ -1,11 +1,11 @@
 -- Induction over the trees of patterns.
-use Rattle.std.proofs.Common.{List, [], ◌∷◌, map, ℤ, subst}
-use Rattle.dactl_syntax.specs.declared.tree.Name.{Name}
-use Rattle.dactl_syntax.specs.declared.tree.Sign.{Sign}
-use Rattle.dactl_syntax.specs.declared.tree.PatternTree.{PatternTree}
-use Rattle.dactl_syntax.specs.declared.tree.PatternTree.TheOpen.{PatternTree-F}
-use Rattle.dactl_syntax.specs.declared.tree.PatternTree.TheViews.{roll-PatternTree}
-use Rattle.dactl_syntax.specs.declared.tree.PatternTree.TheFolds.{ind-PatternTree, map-PatternTree}
+use Rattle.std.proofs.Common.{List, [], ◌∷◌, map, ℕ, ℤ, subst}
+use Rattle.dactl_meaning.specs.declared.tree.Name.{Name}
+use Rattle.dactl_meaning.specs.declared.tree.Sign.{Sign}
+use Rattle.dactl_meaning.specs.declared.tree.PatternTree.{PatternTree}
+use Rattle.dactl_meaning.specs.declared.tree.PatternTree.TheOpen.{PatternTree-F}
+use Rattle.dactl_meaning.specs.declared.tree.PatternTree.TheViews.{roll-PatternTree}
+use Rattle.dactl_meaning.specs.declared.tree.PatternTree.TheFolds.{ind-PatternTree, map-PatternTree}
 
 -- the fact holds of each
 abbrev pub Each : {X : Type 0} → (X → Type 0) → List X → Type 0
@@ -21,7 +21,9 @@ EachLink Q (l ∷ rest) = Q l.1 × EachLink Q rest
 pub record PatternCases (Q : PatternTree → Type 0) : Type 0 where
   pub any : Q (roll-PatternTree PatternTree-F.Any)
   pub int : Q (roll-PatternTree PatternTree-F.Int)
+  pub char : Q (roll-PatternTree PatternTree-F.Char)
   pub integer : (value : ℤ) → Q (roll-PatternTree (PatternTree-F.Integer value))
+  pub letter : (value : ℕ) → Q (roll-PatternTree (PatternTree-F.Letter value))
   pub symbol : (name : Name) (args : List PatternTree) → Each Q args → Q (roll-PatternTree (PatternTree-F.Sym name args))
   pub variable : (name : Name) → Q (roll-PatternTree (PatternTree-F.Variable name))
   pub binder : (name : Name) (inner : PatternTree) → Q inner → Q (roll-PatternTree (PatternTree-F.Binder name inner))
@@ -38,7 +40,9 @@ each_link_of Q (e ∷ es) = (e.1.1, each_link_of Q es)
 pattern_level : (Q : PatternTree → Type 0) → PatternCases Q → (y : PatternTree-F ((t : PatternTree) × Q t)) → Q (roll-PatternTree (map-PatternTree ((t : PatternTree) × Q t) PatternTree (λ e. e.0) y))
 pattern_level Q cases PatternTree-F.Any = cases.any
 pattern_level Q cases PatternTree-F.Int = cases.int
+pattern_level Q cases PatternTree-F.Char = cases.char
 pattern_level Q cases (PatternTree-F.Integer value) = cases.integer value
+pattern_level Q cases (PatternTree-F.Letter value) = cases.letter value
 pattern_level Q cases (PatternTree-F.Sym name args) = cases.symbol name (map (λ e. e.0) args) (each_of Q args)
 pattern_level Q cases (PatternTree-F.Variable name) = cases.variable name
 pattern_level Q cases (PatternTree-F.Binder name inner) = cases.binder name inner.0 inner.1

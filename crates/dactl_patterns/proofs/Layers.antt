@@ -6,14 +6,14 @@ use Rattle.std.proofs.lemmas.List.{map-append, length-map}
 use Rattle.std.proofs.lemmas.List.Elements.{filter-append}
 use Rattle.dactl_base.specs.declared.refusal.Kind.TheVariants as kinds
 use Rattle.dactl_base.specs.declared.refusal.Refusal.{Refusal}
-use Rattle.dactl_syntax.specs.declared.tree.Name.{Name}
-use Rattle.dactl_syntax.specs.declared.tree.Sign.{Sign}
-use Rattle.dactl_syntax.specs.declared.tree.PatternTree.{PatternTree}
-use Rattle.dactl_syntax.specs.declared.tree.PatternTree.TheVariants as p
-use Rattle.dactl_syntax.specs.Expansion as spec
-use Rattle.dactl_syntax.specs.Expansion.{Occurrence, occurrences_level, occurrences_in, has_plus}
-use Rattle.dactl_syntax.specs.RuleFaults.{place_of, each_at, widths_level, widths}
-use Rattle.dactl_syntax.specs.Uses.{Use, pattern_uses, pattern_uses_level}
+use Rattle.dactl_meaning.specs.declared.tree.Name.{Name}
+use Rattle.dactl_meaning.specs.declared.tree.Sign.{Sign}
+use Rattle.dactl_meaning.specs.declared.tree.PatternTree.{PatternTree}
+use Rattle.dactl_meaning.specs.declared.tree.PatternTree.TheVariants as p
+use Rattle.dactl_meaning.specs.Expansion as spec
+use Rattle.dactl_meaning.specs.Expansion.{Occurrence, occurrences_level, occurrences_in, has_plus}
+use Rattle.dactl_meaning.specs.RuleFaults.{place_of, each_at, widths_level, widths}
+use Rattle.dactl_meaning.specs.Uses.{Use, pattern_uses, pattern_uses_level}
 use Rattle.dactl_patterns.specs.Cycling.{used, link_used}
 use Rattle.dactl_patterns.specs.Occurring.{link_occurrences}
 use Rattle.dactl_patterns.specs.TreeFaults.{fault_if, wide_fault, wide_faults, link_wide_faults}

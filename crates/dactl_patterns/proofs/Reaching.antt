@@ -3,12 +3,12 @@ use Rattle.std.proofs.Common.{◌≡◌, ℕ, zero, suc, ◌+◌, ◌<◌, ◌�
 use Rattle.std.specs.Prelude.{Any, Contains, slice_get}
 use Rattle.std.specs.List.{filter_map, cons_option}
 use Rattle.std.proofs.lemmas.List.Elements.{Contains-append_left}
-use Rattle.dactl_syntax.specs.declared.tree.PatternTree.{PatternTree}
-use Rattle.dactl_syntax.specs.declared.tree.Text.{Text}
-use Rattle.dactl_syntax.specs.Declarations.{named_pattern}
-use Rattle.dactl_syntax.specs.Sight.{Seen, SeenSymbol, SeenPattern, sees}
-use Rattle.dactl_syntax.specs.Uses.{Use, pattern_uses}
-use Rattle.dactl_syntax.specs.Meaning.{NamedPattern, IsSeenAs, NamesIn, Names, Reaches}
+use Rattle.dactl_meaning.specs.declared.tree.PatternTree.{PatternTree}
+use Rattle.dactl_meaning.specs.declared.tree.Text.{Text}
+use Rattle.dactl_meaning.specs.Declarations.{named_pattern}
+use Rattle.dactl_meaning.specs.Sight.{Seen, SeenSymbol, SeenPattern, sees}
+use Rattle.dactl_meaning.specs.Uses.{Use, pattern_uses}
+use Rattle.dactl_meaning.specs.Meaning.{NamedPattern, IsSeenAs, NamesIn, Names, Reaches}
 use Rattle.dactl_symbols.proofs.Sooner.{Any-nil, Any-cons, Any-uncons}
 use Rattle.dactl_patterns.specs.Cycling.{seen_pattern, named_by, named_from, Gains, ReachesItself}
 use Rattle.dactl_patterns.proofs.Gaining.{none_in}

@@ -1,17 +1,11 @@
 -- The fault of a list that is told.
-use Rattle.std.proofs.Common.{◌≡◌, ℕ, ◌+◌, ◌<◌, Bool, true, false, inl, inr, List, [], ◌∷◌, ◌++◌, Option, Some, length, take, get_or, refl, sym, ap, ◌∙◌, subst, arith}
+use Rattle.std.proofs.Common.{◌≡◌, ℕ, ◌+◌, ◌<◌, inl, inr, List, Option, Some, length, take, get_or, refl, sym, ap, ◌∙◌, subst, arith}
 use Rattle.std.specs.Prelude.{Any, Contains, slice_index_or}
-use Rattle.std.specs.List.{flat_map}
 use Rattle.std.proofs.lemmas.List.{take_more}
-use Rattle.std.proofs.lemmas.List.Elements.{Contains-append_right}
-use Rattle.dactl_base.specs.declared.refusal.Place.{Place}
-use Rattle.dactl_base.specs.declared.refusal.Kind.TheVariants as kinds
 use Rattle.dactl_base.specs.declared.refusal.Refusal.{Refusal}
-use Rattle.dactl_syntax.specs.Faults.{rank, Precedes, StandsBefore, NoFault}
-use Rattle.dactl_syntax.specs.Expansion.{Occurrence}
+use Rattle.dactl_meaning.specs.Faults.{rank, Precedes, StandsBefore}
 use Rattle.dactl_symbols.specs.Least.{sooner, least_by, TellsLeast}
 use Rattle.dactl_symbols.proofs.Sooner.{tells-same, tells-least_by, least_by-push}
-use Rattle.dactl_patterns.specs.TreeFaults.{fault_if, binder_fault}
 
 pub not_before_itself : (a : Refusal) → ¬ Precedes a a
 not_before_itself a (inl less) = omega arith

@@ -1,12 +1,12 @@
 -- A fold over a pattern, by the layer at its top.
-use Rattle.std.proofs.Common.{◌≡◌, ℤ, List, map, sym, ap, ◌∙◌}
-use Rattle.dactl_syntax.specs.declared.tree.Name.{Name}
-use Rattle.dactl_syntax.specs.declared.tree.Sign.{Sign}
-use Rattle.dactl_syntax.specs.declared.tree.PatternTree.{PatternTree}
-use Rattle.dactl_syntax.specs.declared.tree.PatternTree.TheVariants.{rolls-Any, rolls-Int, rolls-Integer, rolls-Variable, rolls-Binder, rolls-Chain, rolls-Sym}
-use Rattle.dactl_syntax.specs.declared.tree.PatternTree.TheVariants as p
-use Rattle.dactl_syntax.specs.declared.tree.PatternTree.TheOpen.{PatternTree-F}
-use Rattle.dactl_syntax.specs.declared.tree.PatternTree.TheFolds.{fold-PatternTree, fold-roll-PatternTree}
+use Rattle.std.proofs.Common.{◌≡◌, ℕ, ℤ, List, map, sym, ap, ◌∙◌}
+use Rattle.dactl_meaning.specs.declared.tree.Name.{Name}
+use Rattle.dactl_meaning.specs.declared.tree.Sign.{Sign}
+use Rattle.dactl_meaning.specs.declared.tree.PatternTree.{PatternTree}
+use Rattle.dactl_meaning.specs.declared.tree.PatternTree.TheVariants.{rolls-Any, rolls-Int, rolls-Char, rolls-Integer, rolls-Letter, rolls-Variable, rolls-Binder, rolls-Chain, rolls-Sym}
+use Rattle.dactl_meaning.specs.declared.tree.PatternTree.TheVariants as p
+use Rattle.dactl_meaning.specs.declared.tree.PatternTree.TheOpen.{PatternTree-F}
+use Rattle.dactl_meaning.specs.declared.tree.PatternTree.TheFolds.{fold-PatternTree, fold-roll-PatternTree}
 
 module _ {R : Type 0} (level : PatternTree-F R → R) where
   abbrev folded : PatternTree → R
@@ -30,5 +30,11 @@ module _ {R : Type 0} (level : PatternTree-F R → R) where
   pub fold_int : folded p.Int ≡ level PatternTree-F.Int
   fold_int = ap folded (sym rolls-Int) ∙ fold-roll-PatternTree R level PatternTree-F.Int
 
+  pub fold_char : folded p.Char ≡ level PatternTree-F.Char
+  fold_char = ap folded (sym rolls-Char) ∙ fold-roll-PatternTree R level PatternTree-F.Char
+
   pub fold_integer : (value : ℤ) → folded (p.Integer value) ≡ level (PatternTree-F.Integer value)
   fold_integer value = ap folded (sym (rolls-Integer value)) ∙ fold-roll-PatternTree R level (PatternTree-F.Integer value)
+
+  pub fold_letter : (value : ℕ) → folded (p.Letter value) ≡ level (PatternTree-F.Letter value)
+  fold_letter value = ap folded (sym (rolls-Letter value)) ∙ fold-roll-PatternTree R level (PatternTree-F.Letter value)

@@ -1,17 +1,15 @@
 -- Expansions as they are made, step by step.
-use Rattle.std.proofs.Common.{◌≡◌, ℕ, zero, suc, ◌+◌, ◌-◌, ◌<◌, ◌≤◌, List, [], ◌∷◌, ◌++◌, map, length, take, drop, get_or, Option, Some, None, refl, sym, ap, ◌∙◌, subst, arith}
+use Rattle.std.proofs.Common.{◌≡◌, ℕ, zero, suc, ◌+◌, ◌-◌, ◌<◌, ◌≤◌, List, [], ◌∷◌, ◌++◌, map, length, take, drop, get_or, Option, Some, sym, ap, ◌∙◌, subst, arith}
 use Rattle.std.specs.Prelude.{sum_by}
 use Rattle.std.proofs.lemmas.List.Sums.{sum_by_more, sum_by_more_le}
 use Rattle.dactl_model.specs.declared.program.Pat.{Pat}
-use Rattle.dactl_model.specs.declared.program.Pat.TheOpen.{Pat-F}
-use Rattle.dactl_model.specs.declared.program.Pat.TheViews.{roll-Pat}
-use Rattle.dactl_syntax.specs.declared.tree.Sign.{Sign}
-use Rattle.dactl_syntax.specs.declared.tree.PatternTree.{PatternTree}
-use Rattle.dactl_syntax.specs.Expansion.{at_variable, join, chain, pattern_nodes}
+use Rattle.dactl_meaning.specs.declared.tree.Sign.{Sign}
+use Rattle.dactl_meaning.specs.declared.tree.PatternTree.{PatternTree}
+use Rattle.dactl_meaning.specs.Expansion.{at_variable, join, chain, pattern_nodes}
 use Rattle.dactl_symbols.proofs.Walks.{mapped-more}
 use Rattle.dactl_patterns.specs.declared.expanding.Small.{Small}
 use Rattle.dactl_patterns.specs.Table.{IsWithin}
-use Rattle.dactl_patterns.proofs.Expansions.{nodes_bound, nodes_joined, chain_over}
+use Rattle.dactl_patterns.proofs.Expansions.{nodes_bound, chain_over}
 
 pub within_as : (most : ℕ) (a b : Pat) (r : Option Small) → b ≡ a → IsWithin most a r → IsWithin most b r
 within_as most a b r is within = subst (λ (p : Pat). IsWithin most p r) (sym is) within

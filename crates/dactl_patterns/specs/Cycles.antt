@@ -2,10 +2,10 @@
 use Rattle.std.specs.Prelude.{◌≡◌, ℕ, ◌+◌, Bool, false, nat_lt, List, [], ◌∷◌, ◌++◌, Option, Some, None, Any}
 use Rattle.dactl_base.specs.declared.refusal.Kind.TheVariants as kinds
 use Rattle.dactl_base.specs.declared.refusal.Refusal.{Refusal}
-use Rattle.dactl_syntax.specs.declared.tree.Item.{Item}
-use Rattle.dactl_syntax.specs.declared.tree.Item.TheVariants as item
-use Rattle.dactl_syntax.specs.declared.tree.Module.{Module}
-use Rattle.dactl_syntax.specs.declared.tree.Text.{Text}
+use Rattle.dactl_meaning.specs.declared.tree.Item.{Item}
+use Rattle.dactl_meaning.specs.declared.tree.Item.TheVariants as item
+use Rattle.dactl_meaning.specs.declared.tree.Module.{Module}
+use Rattle.dactl_meaning.specs.declared.tree.Text.{Text}
 use Rattle.dactl_patterns.specs.declared.declarations.Declared.{Declared}
 use Rattle.dactl_patterns.specs.Cycling.{ReachesItself}
 

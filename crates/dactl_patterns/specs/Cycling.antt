@@ -1,14 +1,14 @@
 -- Which named patterns a named pattern names, as lists.
 use Rattle.std.specs.Prelude.{◌≡◌, ℕ, ◌⊎◌, List, [], ◌++◌, map, Contains, Option, Some, None}
 use Rattle.std.specs.List.{filter_map}
-use Rattle.dactl_syntax.specs.declared.tree.Name.{Name}
-use Rattle.dactl_syntax.specs.declared.tree.PatternTree.{PatternTree}
-use Rattle.dactl_syntax.specs.declared.tree.Sign.{Sign}
-use Rattle.dactl_syntax.specs.declared.tree.Text.{Text}
-use Rattle.dactl_syntax.specs.Declarations.{named_pattern}
-use Rattle.dactl_syntax.specs.Sight.{Seen, SeenSymbol, SeenPattern, sees}
-use Rattle.dactl_syntax.specs.Uses.{pattern_uses}
-use Rattle.dactl_syntax.specs.Meaning.{NamedPattern, Reaches}
+use Rattle.dactl_meaning.specs.declared.tree.Name.{Name}
+use Rattle.dactl_meaning.specs.declared.tree.PatternTree.{PatternTree}
+use Rattle.dactl_meaning.specs.declared.tree.Sign.{Sign}
+use Rattle.dactl_meaning.specs.declared.tree.Text.{Text}
+use Rattle.dactl_meaning.specs.Declarations.{named_pattern}
+use Rattle.dactl_meaning.specs.Sight.{Seen, SeenSymbol, SeenPattern, sees}
+use Rattle.dactl_meaning.specs.Uses.{pattern_uses}
+use Rattle.dactl_meaning.specs.Meaning.{NamedPattern, Reaches}
 
 -- the names of symbols and patterns that a pattern uses
 abbrev pub used : PatternTree → List Name

@@ -1,10 +1,10 @@
 -- What the expansion of a pattern is, and what is known of a pattern.
 use Rattle.std.specs.Prelude.{◌≡◌, ℕ, Bool, true, false, List, Contains, Option, Some, None}
 use Rattle.dactl_model.specs.declared.program.Pat.{Pat}
-use Rattle.dactl_syntax.specs.declared.tree.PatternTree.{PatternTree}
-use Rattle.dactl_syntax.specs.declared.tree.Text.{Text}
-use Rattle.dactl_syntax.specs.Expansion.{variables_of, rule_expansion, pattern_expansion}
-use Rattle.dactl_syntax.specs.RuleFaults.{is_too_wide, pattern_faults}
+use Rattle.dactl_meaning.specs.declared.tree.PatternTree.{PatternTree}
+use Rattle.dactl_meaning.specs.declared.tree.Text.{Text}
+use Rattle.dactl_meaning.specs.Expansion.{variables_of, rule_expansion, pattern_expansion}
+use Rattle.dactl_meaning.specs.RuleFaults.{is_too_wide, pattern_faults}
 use Rattle.dactl_symbols.specs.Least.{TellsLeast}
 use Rattle.dactl_patterns.specs.declared.patterns.Examined.{Examined}
 use Rattle.dactl_patterns.specs.declared.patterns.Expanded.{Expanded}

@@ -1,8 +1,8 @@
 -- The places of variables, as the code keeps them.
 use Rattle.std.specs.Prelude.{List, true}
-use Rattle.dactl_syntax.specs.declared.tree.PatternTree.{PatternTree}
-use Rattle.dactl_syntax.specs.declared.tree.Sign.{Sign}
-use Rattle.dactl_syntax.specs.Expansion as spec
+use Rattle.dactl_meaning.specs.declared.tree.PatternTree.{PatternTree}
+use Rattle.dactl_meaning.specs.declared.tree.Sign.{Sign}
+use Rattle.dactl_meaning.specs.Expansion as spec
 use Rattle.dactl_patterns.specs.declared.occurrences.Occurrence as code
 
 -- a place of a variable, without where the code finds it

@@ -1,12 +1,12 @@
 -- What is known of a text's named patterns, and that it is right.
-use Rattle.std.specs.Prelude.{◌≡◌, ℕ, ◌<◌, ◌≤◌, ◌==◌, ◌&&◌, Bool, List, Option, Some, None}
-use Rattle.indexmap.specs.IndexMap.{IndexMap, get}
+use Rattle.std.specs.Prelude.{◌≡◌, ℕ, ◌<◌, ◌≤◌, List, Option, Some, None}
+use Rattle.indexmap.specs.IndexMap.{get}
 use Rattle.dactl_model.specs.declared.program.Pat.{Pat}
 use Rattle.dactl_model.specs.Binders.{head}
-use Rattle.dactl_syntax.specs.declared.tree.PatternTree.{PatternTree}
-use Rattle.dactl_syntax.specs.Expansion.{pattern_nodes, expansion_by, named_expansion, named_count, at_name}
-use Rattle.dactl_syntax.specs.Meaning.{NamedPattern}
-use Rattle.dactl_syntax.specs.Sight.{sees}
+use Rattle.dactl_meaning.specs.declared.tree.PatternTree.{PatternTree}
+use Rattle.dactl_meaning.specs.Expansion.{pattern_nodes, expansion_by, named_expansion, named_count, at_name}
+use Rattle.dactl_meaning.specs.Meaning.{NamedPattern}
+use Rattle.dactl_meaning.specs.Sight.{sees}
 use Rattle.dactl_symbols.specs.Scoping.{IsScopesOf}
 use Rattle.dactl_patterns.specs.declared.expanding.Small.{Small}
 use Rattle.dactl_patterns.specs.declared.named.Known.{Known}

@@ -15,7 +15,9 @@ pub fn copied(alloc: Global, pattern: &Pat) -> Result<Pat, Memory>
     match pattern {
         Pat::Any => Ok(Pat::Any),
         Pat::Int => Ok(Pat::Int),
+        Pat::Char => Ok(Pat::Char),
         Pat::Literal(value) => Ok(Pat::Literal(*value)),
+        Pat::Letter(value) => Ok(Pat::Letter(*value)),
         Pat::Sym { symbol, args } => {
             let args = all_copied(alloc, args.as_slice())?;
             Ok(Pat::Sym {

@@ -11,10 +11,10 @@ use crate::declarations::Declared;
 use crate::levels::is_free;
 use crate::uses::named_from;
 use dactl_base::refusal::{Kind, Refusal};
+use dactl_meaning::tree::Text;
 use dactl_model::Memory;
 use dactl_symbols::least::lesser;
 use dactl_symbols::sight::Scopes;
-use dactl_syntax::tree::Text;
 use indexmap::{IndexMap, IndexSet};
 use std::alloc::Global;
 

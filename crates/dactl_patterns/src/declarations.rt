@@ -4,8 +4,8 @@ ghost use Rattle.std.specs.Prelude.{◌≡◌, ◌++◌, OnOk, IfOk};
 ghost use Rattle.dactl_patterns.specs.Cycles.{declared_at, declared_from, all_declared};
 
 use dactl_base::refusal::Place;
+use dactl_meaning::tree::{Item, Text};
 use dactl_model::Memory;
-use dactl_syntax::tree::{Item, Text};
 use std::alloc::Global;
 
 /// A named pattern of a text: the numbers of its module and of its item there, and where its name

@@ -3,8 +3,8 @@
 ghost use Rattle.std.specs.Prelude.{◌≡◌, ℕ, ◌+◌, ◌≤◌, ◌<◌, ◌^◌, IfOk, IfSome};
 ghost use Rattle.std.specs.Option.{option_copied};
 ghost use Rattle.dactl_model.specs.declared.program.Pat.{Pat};
-ghost use Rattle.dactl_syntax.specs.Expansion as expansion;
-ghost use Rattle.dactl_syntax.specs.Expansion.{pattern_nodes};
+ghost use Rattle.dactl_meaning.specs.Expansion as expansion;
+ghost use Rattle.dactl_meaning.specs.Expansion.{pattern_nodes};
 ghost use Rattle.dactl_patterns.specs.Table.{IsKnown, IsRight, IsWithin};
 ghost use Rattle.dactl_patterns.specs.Expanding as spec;
 
@@ -12,10 +12,10 @@ use crate::copying::copied;
 use crate::lookups::seen;
 use crate::named::{Known, NamedPatterns};
 use crate::names::number;
+use dactl_meaning::tree::{Name, PatternTree, Sign};
 use dactl_model::Memory;
 use dactl_model::program::Pat;
 use dactl_symbols::sight::Seen;
-use dactl_syntax::tree::{Name, PatternTree, Sign};
 use sqlite_items::{Boxed, Items};
 use std::alloc::{AllocError, Global};
 
@@ -135,7 +135,9 @@ impl Expander<'_> {
         match tree {
             PatternTree::Any => Ok(leaf(Pat::Any, most)),
             PatternTree::Int => Ok(leaf(Pat::Int, most)),
+            PatternTree::Char => Ok(leaf(Pat::Char, most)),
             PatternTree::Integer { value } => Ok(leaf(Pat::Literal(*value), most)),
+            PatternTree::Letter { value } => Ok(leaf(Pat::Letter(*value), most)),
             PatternTree::Variable { name } => match leaf(Pat::Any, most) {
                 Some(inner) => Ok(Some(self.bound(name, inner)?)),
                 None => Ok(None),

@@ -1,19 +1,19 @@
 //! The faults of one pattern, apart from the size of its expansion.
 
-ghost use Rattle.std.specs.Prelude.{◌≡◌, ◌++◌, [], Some, OnOk, IfOk, Contains, map};
+ghost use Rattle.std.specs.Prelude.{◌≡◌, ◌++◌, Some, OnOk, IfOk, Contains, map};
 ghost use Rattle.std.specs.List.{flat_map};
 ghost use Rattle.dactl_symbols.specs.Least.{least_by, TellsLeast};
-ghost use Rattle.dactl_patterns.specs.Naming.{words};
+ghost use Rattle.dactl_patterns.specs.Naming.{has_word};
 ghost use Rattle.dactl_patterns.specs.Occurring.{seen};
 ghost use Rattle.dactl_patterns.specs.TreeFaults as spec;
 
 use crate::names::add;
 use crate::occurrences::Occurrence;
 use dactl_base::refusal::{Kind, Place, Refusal};
+use dactl_meaning::tree::{PatternTree, Sign};
 use dactl_symbols::least::lesser;
-use dactl_syntax::tree::{PatternTree, Sign};
-use indexmap::IndexSet;
 use std::alloc::{AllocError, Global};
+use std::collections::BTreeSet;
 
 /// How many arguments a symbol may have.
 const MOST_ARGUMENTS: usize = 16;
@@ -53,11 +53,11 @@ fn binders(
 
 fn note_given<'a>(
     faults: &mut Vec<Refusal>,
-    names: &mut IndexSet<&'a [u8]>,
+    names: &mut BTreeSet<&'a [u8]>,
     occurrence: Occurrence<'a>,
 ) -> Result<(), AllocError>
-    ensures faults { OnOk result (faults.new.items ≡ faults.old.items ++ spec.twice_fault (words names.old.keys) (seen occurrence.entry)) }
-    ensures names { OnOk result (words names.new.keys ≡ spec.given_after (words names.old.keys) (seen occurrence.entry)) }
+    ensures faults { OnOk result (faults.new.items ≡ faults.old.items ++ spec.twice_fault (has_word names.old) (seen occurrence.entry)) }
+    ensures names { OnOk result (has_word names.new ≡ spec.given_after (has_word names.old) (seen occurrence.entry)) }
 {
     if occurrence.given {
         let added = add(names, occurrence.name.text.as_slice())?;
@@ -72,9 +72,9 @@ fn named_twice(
     faults: &mut Vec<Refusal>,
     occurrences: &[Occurrence],
 ) -> Result<(), AllocError>
-    ensures { OnOk result (faults.new.items ≡ faults.old.items ++ spec.twice_faults [] (map seen occurrences.now)) }
+    ensures { OnOk result (faults.new.items ≡ faults.old.items ++ spec.twice_faults spec.none_given (map seen occurrences.now)) }
 {
-    let mut names = IndexSet::new(alloc);
+    let mut names = BTreeSet::new(alloc);
     for occurrence in occurrences {
         note_given(faults, &mut names, *occurrence)?;
     }
@@ -89,7 +89,9 @@ fn wide(faults: &mut Vec<Refusal>, tree: &PatternTree) -> Result<(), AllocError>
     match tree {
         PatternTree::Any
         | PatternTree::Int
+        | PatternTree::Char
         | PatternTree::Integer { .. }
+        | PatternTree::Letter { .. }
         | PatternTree::Variable { .. } => Ok(()),
         PatternTree::Sym { name, args } => {
             fault_if(

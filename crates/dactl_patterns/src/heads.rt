@@ -7,9 +7,9 @@ ghost use Rattle.dactl_patterns.specs.Table as spec;
 use crate::lookups::seen;
 use crate::named::NamedPatterns;
 use crate::occurrences::has_plus;
+use dactl_meaning::tree::{Name, PatternTree};
 use dactl_model::Memory;
 use dactl_symbols::sight::Seen;
-use dactl_syntax::tree::{Name, PatternTree};
 use std::alloc::AllocError;
 
 fn at_name(patterns: &NamedPatterns, owner: usize, name: &Name) -> Result<Option<u32>, Memory>
@@ -39,7 +39,9 @@ pub fn head_symbol(
     match tree {
         PatternTree::Any => Ok(None),
         PatternTree::Int => Ok(None),
+        PatternTree::Char => Ok(None),
         PatternTree::Integer { .. } => Ok(None),
+        PatternTree::Letter { .. } => Ok(None),
         PatternTree::Variable { .. } => Ok(None),
         PatternTree::Sym { name, .. } => at_name(patterns, owner, name),
         PatternTree::Binder { inner, .. } => head_symbol(patterns, owner, inner.get()),

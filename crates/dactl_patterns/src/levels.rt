@@ -8,9 +8,9 @@ ghost use Rattle.dactl_patterns.specs.Levels as spec;
 
 use crate::declarations::Declared;
 use crate::uses::named_from;
+use dactl_meaning::tree::Text;
 use dactl_model::Memory;
 use dactl_symbols::sight::Scopes;
-use dactl_syntax::tree::Text;
 use indexmap::{IndexMap, IndexSet};
 use std::alloc::Global;
 

@@ -2,12 +2,12 @@
 
 ghost use Rattle.std.specs.Prelude.{◌≡◌, option_map};
 ghost use Rattle.std.specs.Option.{option_copied};
-ghost use Rattle.dactl_syntax.specs.Declarations.{named_pattern};
-ghost use Rattle.dactl_syntax.specs.Sight.{sees};
+ghost use Rattle.dactl_meaning.specs.Declarations.{named_pattern};
+ghost use Rattle.dactl_meaning.specs.Sight.{sees};
 ghost use Rattle.dactl_symbols.specs.Scoping.{IsScopesOf, told};
 
+use dactl_meaning::tree::{Item, Name, PatternTree, Text};
 use dactl_symbols::sight::{Scopes, Seen};
-use dactl_syntax::tree::{Item, Name, PatternTree, Text};
 
 /// What the module sees under the name.
 pub fn seen(text: &Text, scopes: &Scopes, owner: usize, name: &Name) -> Option<Seen>

@@ -1,9 +1,9 @@
 //! The named patterns of a text, each looked through once, after those that it names.
 
 ghost use Rattle.std.specs.Prelude.{◌≡◌, ℕ, suc, length, vec_len, IfOk, OnOk};
-ghost use Rattle.dactl_syntax.specs.Expansion.{named_count, named_expansion};
-ghost use Rattle.dactl_syntax.specs.Faults.{TellsFaults};
-ghost use Rattle.dactl_syntax.specs.Meaning.{CycleFault};
+ghost use Rattle.dactl_meaning.specs.Expansion.{named_count, named_expansion};
+ghost use Rattle.dactl_meaning.specs.Faults.{TellsFaults};
+ghost use Rattle.dactl_meaning.specs.Meaning.{CycleFault};
 ghost use Rattle.dactl_symbols.specs.Scoping.{IsScopesOf};
 ghost use Rattle.dactl_patterns.specs.Table as spec;
 
@@ -14,9 +14,9 @@ use crate::heads::head_symbol;
 use crate::levels::{level, levels};
 use crate::lookups::named_tree;
 use dactl_base::refusal::TextFault;
+use dactl_meaning::tree::{PatternTree, Text};
 use dactl_model::Memory;
 use dactl_symbols::sight::Scopes;
-use dactl_syntax::tree::{PatternTree, Text};
 use indexmap::IndexMap;
 use std::alloc::Global;
 

@@ -2,10 +2,10 @@
 
 ghost use Rattle.std.specs.Prelude.{◌≡◌, ◌++◌, OnOk, map, true, false};
 ghost use Rattle.std.specs.List.{flat_map};
-ghost use Rattle.dactl_syntax.specs.Expansion as spec;
+ghost use Rattle.dactl_meaning.specs.Expansion as spec;
 ghost use Rattle.dactl_patterns.specs.Occurring.{seen, link_occurrences};
 
-use dactl_syntax::tree::{Name, PatternTree, Sign};
+use dactl_meaning::tree::{Name, PatternTree, Sign};
 use std::alloc::AllocError;
 
 /// A place of a variable: whether `:` stands behind it, and whether it stands below `+` or to the
@@ -39,7 +39,11 @@ pub fn occurrences<'a>(
     ensures { OnOk result (map seen out.new.items ≡ map seen out.old.items ++ spec.occurrences_in tree.now choice) }
 {
     match tree {
-        PatternTree::Any | PatternTree::Int | PatternTree::Integer { .. } => Ok(()),
+        PatternTree::Any
+        | PatternTree::Int
+        | PatternTree::Char
+        | PatternTree::Integer { .. }
+        | PatternTree::Letter { .. } => Ok(()),
         PatternTree::Sym { args, .. } => in_arguments(out, args.as_slice(), choice),
         PatternTree::Variable { name } => {
             out.push(Occurrence {

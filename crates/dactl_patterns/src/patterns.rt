@@ -2,9 +2,9 @@
 
 ghost use Rattle.std.specs.Prelude.{◌≡◌, ◌&&◌, not, nat_lt, length, IfOk, Contains, map};
 ghost use Rattle.std.specs.Option.{option_copied};
-ghost use Rattle.dactl_syntax.specs.Faults.{TellsFaults};
-ghost use Rattle.dactl_syntax.specs.Expansion as spec;
-ghost use Rattle.dactl_syntax.specs.RuleFaults.{pattern_faults};
+ghost use Rattle.dactl_meaning.specs.Faults.{TellsFaults};
+ghost use Rattle.dactl_meaning.specs.Expansion as spec;
+ghost use Rattle.dactl_meaning.specs.RuleFaults.{pattern_faults};
 ghost use Rattle.dactl_symbols.specs.Scoping.{IsScopesOf};
 ghost use Rattle.dactl_patterns.specs.Occurring.{seen};
 ghost use Rattle.dactl_patterns.specs.Expanded.{IsExamined, IsExpanded, IsExpansion, variables_counted};
@@ -16,9 +16,9 @@ use crate::named::{MOST_NODES, NamedPatterns, named_patterns};
 use crate::names::variables;
 use crate::occurrences::{Occurrence, occurrences};
 use dactl_base::refusal::{Place, Refusal, TextFault};
+use dactl_meaning::tree::{PatternTree, Text};
 use dactl_model::program::Pat;
 use dactl_symbols::sight::Scopes;
-use dactl_syntax::tree::{PatternTree, Text};
 use sqlite_items::Items;
 use std::alloc::{AllocError, Global};
 

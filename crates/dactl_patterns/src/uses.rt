@@ -2,14 +2,14 @@
 
 ghost use Rattle.std.specs.Prelude.{◌≡◌, [], ◌∷◌, ◌++◌, OnOk, IfOk};
 ghost use Rattle.std.specs.List.{flat_map, filter_map};
-ghost use Rattle.dactl_syntax.specs.Sight.{sees};
+ghost use Rattle.dactl_meaning.specs.Sight.{sees};
 ghost use Rattle.dactl_symbols.specs.Scoping.{IsScopesOf};
 ghost use Rattle.dactl_patterns.specs.Naming.{told};
 ghost use Rattle.dactl_patterns.specs.Cycling as spec;
 
 use crate::lookups::{named_tree, seen};
+use dactl_meaning::tree::{Name, PatternTree, Sign, Text};
 use dactl_symbols::sight::{Scopes, Seen};
-use dactl_syntax::tree::{Name, PatternTree, Sign, Text};
 use std::alloc::{AllocError, Global};
 
 /// Puts the names of symbols and patterns that the pattern uses at the end of `names`.
@@ -20,7 +20,9 @@ fn used<'a>(names: &mut Vec<&'a Name>, tree: &'a PatternTree) -> Result<(), Allo
     match tree {
         PatternTree::Any
         | PatternTree::Int
+        | PatternTree::Char
         | PatternTree::Integer { .. }
+        | PatternTree::Letter { .. }
         | PatternTree::Variable { .. } => Ok(()),
         PatternTree::Sym { name, args } => {
             names.push(name)?;

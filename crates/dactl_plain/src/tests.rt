@@ -144,11 +144,12 @@ fn contractum(alloc: Global) -> Result<Body, Memory> {
         fresh,
         moves: Items::from_slice(alloc, &[to_first])?,
         wakes: Items::new(alloc),
+        suspend: 0,
     })
 }
 
-/// The rules of the arithmetic, and `Both[A A] => *B`.
-fn rules(alloc: Global) -> Result<Items<Rule>, Memory> {
+/// The rules of the arithmetic, and one of `Both`.
+fn rules(alloc: Global, pattern: Pat, body: Body) -> Result<Items<Rule>, Memory> {
     let mut all = Items::new(alloc);
     for (number, op) in [Op::Add, Op::Sub, Op::Mul, Op::Eq, Op::Lt]
         .into_iter()
@@ -160,8 +161,8 @@ fn rules(alloc: Global) -> Result<Items<Rule>, Memory> {
         symbol: 7,
         group: 5,
         variables: 0,
-        pattern: pattern(alloc)?,
-        body: contractum(alloc)?,
+        pattern,
+        body,
     })?;
     Ok(all)
 }
@@ -187,11 +188,13 @@ fn start(alloc: Global, targets: [u32; 2]) -> Result<Start, Memory> {
     Ok(Start { fresh, root: 0 })
 }
 
+/// `Both[A A] => *B` over that start.
 fn both(alloc: Global, targets: [u32; 2]) -> Result<Program, Memory> {
     Ok(Program {
         symbols: symbols(alloc)?,
-        rules: rules(alloc)?,
+        rules: rules(alloc, pattern(alloc)?, contractum(alloc)?)?,
         start: start(alloc, targets)?,
+        wide: false,
     })
 }
 
@@ -371,5 +374,157 @@ fn a_journal_of_no_node_or_no_rule_is_none(rt: HostRuntime) -> Result<(), Fail> 
     assert!(rt; leads_nowhere(rt.alloc(), &[noting(9)])?);
     assert!(rt; leads_nowhere(rt.alloc(), &[firing(9, 5)])?);
     assert!(rt; leads_nowhere(rt.alloc(), &[noting(1), noting(2), firing(0, 9)])?);
+    Ok(())
+}
+
+/// An active node with two arcs, which wait or not, to leaves of these labels.
+fn start_over(
+    alloc: Global,
+    symbol: u32,
+    leaves: [Label; 2],
+    waits: [bool; 2],
+) -> Result<Start, Memory> {
+    let [first, second] = waits;
+    let arcs = [
+        FreshArc {
+            to: Mention::Fresh(1),
+            waits: first,
+        },
+        FreshArc {
+            to: Mention::Fresh(2),
+            waits: second,
+        },
+    ];
+    let mut fresh = Items::new(alloc);
+    fresh.push(node(alloc, symbol, Mark::Active, &arcs)?)?;
+    for label in leaves {
+        fresh.push(FreshNode {
+            label,
+            arcs: Items::new(alloc),
+            mark: Mark::Idle,
+        })?;
+    }
+    Ok(Start { fresh, root: 0 })
+}
+
+/// What the first node becomes by a step there, if the program is valid.
+fn first_after(alloc: Global, program: &Program) -> Result<Option<Graph>, Memory> {
+    if !is_valid(program) {
+        return Ok(None);
+    }
+    let graph = begun(alloc, program)?;
+    stepped_at(alloc, program, &graph, 0)
+}
+
+/// Whether the root of the graph has the label.
+fn root_is(graph: &Graph, label: Label) -> bool {
+    let nodes = graph.nodes.as_slice();
+    match nodes.get(graph.root.number as usize) {
+        Some(root) => root.label == label,
+        None => false,
+    }
+}
+
+/// Whether a program leads to a graph whose root has the label, by one step at its first node.
+fn leads_to_label(alloc: Global, program: &Program, label: Label) -> Result<bool, Memory> {
+    match first_after(alloc, program)? {
+        Some(graph) => Ok(root_is(&graph, label)),
+        None => Ok(false),
+    }
+}
+
+/// `Both['a' CHAR] => *B`, at a `Both` over these leaves.
+fn lettered(alloc: Global, leaves: [Label; 2]) -> Result<Program, Memory> {
+    let mut args = Items::new(alloc);
+    args.push(Pat::Letter(b'a'))?;
+    args.push(Pat::Char)?;
+    let pattern = Pat::Sym { symbol: 7, args };
+    Ok(Program {
+        symbols: symbols(alloc)?,
+        rules: rules(alloc, pattern, contractum(alloc)?)?,
+        start: start_over(alloc, 7, leaves, [false, false])?,
+        wide: true,
+    })
+}
+
+/// Whether the rule of `Both` fires over these leaves.
+fn fires_over(alloc: Global, leaves: [Label; 2]) -> Result<bool, Memory> {
+    let program = lettered(alloc, leaves)?;
+    leads_to_label(alloc, &program, Label::Symbol(9))
+}
+
+#[test]
+fn characters_are_matched(rt: HostRuntime) -> Result<(), Fail> {
+    let [a, b] = [Label::Character(b'a'), Label::Character(b'b')];
+    let number = Label::Integer(97);
+    assert!(rt; fires_over(rt.alloc(), [a, b])?);
+    for other in [[b, a], [number, a], [a, number]] {
+        assert!(rt; !fires_over(rt.alloc(), other)?);
+    }
+    Ok(())
+}
+
+/// `IAdd[9223372036854775807 1]`.
+fn sum(alloc: Global, wide: bool) -> Result<Program, Memory> {
+    let most = Label::Integer(0x7fff_ffff_ffff_ffff);
+    Ok(Program {
+        symbols: symbols(alloc)?,
+        rules: rules(alloc, pattern(alloc)?, contractum(alloc)?)?,
+        start: start_over(alloc, 0, [most, Label::Integer(1)], [false, false])?,
+        wide,
+    })
+}
+
+/// Whether that sum is made.
+fn adds_past_64_bits(alloc: Global, wide: bool) -> Result<bool, Memory> {
+    let program = sum(alloc, wide)?;
+    leads_to_label(alloc, &program, Label::Integer(0x8000_0000_0000_0000))
+}
+
+#[test]
+fn a_sum_past_64_bits_is_made_in_a_wide_program_alone(rt: HostRuntime) -> Result<(), Fail> {
+    assert!(rt; !adds_past_64_bits(rt.alloc(), false)?);
+    assert!(rt; adds_past_64_bits(rt.alloc(), true)?);
+    Ok(())
+}
+
+/// `r:Both[ANY ANY] -> #r` with so many `#`, at a `Both` with arcs that wait or not.
+fn suspending(alloc: Global, suspend: u8, waits: [bool; 2]) -> Result<Program, Memory> {
+    let mut args = Items::new(alloc);
+    args.push(Pat::Any)?;
+    args.push(Pat::Any)?;
+    let body = Body::Written {
+        fresh: Items::new(alloc),
+        moves: Items::new(alloc),
+        wakes: Items::new(alloc),
+        suspend,
+    };
+    let leaf = Label::Symbol(8);
+    Ok(Program {
+        symbols: symbols(alloc)?,
+        rules: rules(alloc, Pat::Sym { symbol: 7, args }, body)?,
+        start: start_over(alloc, 7, [leaf, leaf], waits)?,
+        wide: false,
+    })
+}
+
+/// Whether that root has the mark once it has fired.
+fn suspends_to(alloc: Global, suspend: u8, waits: [bool; 2], mark: Mark) -> Result<bool, Memory> {
+    let program = suspending(alloc, suspend, waits)?;
+    let Some(graph) = first_after(alloc, &program)? else {
+        return Ok(false);
+    };
+    match graph.nodes.as_slice().first() {
+        Some(root) => Ok(root.mark == mark),
+        None => Ok(false),
+    }
+}
+
+#[test]
+fn a_root_waits_again_along_its_arcs(rt: HostRuntime) -> Result<(), Fail> {
+    let [one, both] = [[true, false], [true, true]];
+    assert!(rt; suspends_to(rt.alloc(), 1, one, Mark::Waiting(1))?);
+    assert!(rt; suspends_to(rt.alloc(), 3, both, Mark::Waiting(2))?);
+    assert!(rt; suspends_to(rt.alloc(), 1, [false, false], Mark::Active)?);
     Ok(())
 }

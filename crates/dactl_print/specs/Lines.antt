@@ -4,7 +4,7 @@ use Rattle.std.specs.List.{concat}
 use Rattle.std.specs.Fmt.{decimal, signed_decimal}
 use Rattle.dactl_model.specs.declared.graph.NodeId.{NodeId}
 use Rattle.dactl_model.specs.declared.graph.Label.{Label}
-use Rattle.dactl_model.specs.declared.graph.Label.TheVariants.{Symbol, Integer}
+use Rattle.dactl_model.specs.declared.graph.Label.TheVariants.{Symbol, Integer, Character}
 use Rattle.dactl_model.specs.declared.graph.Arc.{Arc}
 use Rattle.dactl_model.specs.declared.graph.Mark.{Mark}
 use Rattle.dactl_model.specs.declared.graph.Mark.TheVariants.{Idle, Active, Waiting}
@@ -26,10 +26,11 @@ abbrev pub name_of : Option SymbolOf → List ℕ
 name_of (Some symbol) = symbol.name
 name_of None = []
 
--- the name of the symbol, or the integer
+-- the name of the symbol, the integer, or the character between quotes
 abbrev pub label_text : Program → Label → List ℕ
 label_text p (Symbol f) = name_of (slice_get p.symbols f)
 label_text p (Integer i) = signed_decimal i
+label_text p (Character c) = codes "'" ++ (c ∷ codes "'")
 
 -- `@` and the number of the target, after `^` where the arc waits
 abbrev pub argument : List NodeId → Arc → List ℕ
@@ -72,10 +73,11 @@ pub record IsGraphText (p : Program) (g : Graph) (text : List ℕ) : Type 0 wher
   pub is_order : IsOrder g order
   pub lines : text ≡ graph_lines p g order
 
--- the label names a symbol among so many, or is an integer
+-- the label names a symbol among so many, or is an integer or a character
 abbrev pub IsLabelAmong : ℕ → Label → Type 0
 IsLabelAmong count (Symbol f) = f < count
 IsLabelAmong count (Integer i) = Unit {0}
+IsLabelAmong count (Character c) = Unit {0}
 
 -- the symbols of the graph are those of the program
 abbrev pub HasSymbolsOf : Program → Graph → Type 0

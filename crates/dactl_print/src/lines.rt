@@ -48,6 +48,7 @@ fn gather_label<K: Sink>(
             page.gather(sink, symbol.name.as_slice())
         }
         Label::Integer(value) => page.gather_integer(sink, value),
+        Label::Character(byte) => page.gather(sink, &[b'\'', byte, b'\'']),
     }
 }
 

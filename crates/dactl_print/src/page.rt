@@ -94,10 +94,10 @@ impl Page {
     }
 
     /// Gathers the integer in decimal, with `-` before it where it is below 0.
-    pub fn gather_integer<K: Sink>(&mut self, sink: &mut K, n: i64) -> Result<(), Failed>
+    pub fn gather_integer<K: Sink>(&mut self, sink: &mut K, n: i128) -> Result<(), Failed>
         ensures { Prints (K.holds sink.old) (K.holds sink.new) (K.faults sink.old) (K.faults sink.new) self.old self.new result (signed_decimal n) }
     {
         let mut digits = Digits::new();
-        self.gather(sink, digits.text(n as i128))
+        self.gather(sink, digits.text(n))
     }
 }

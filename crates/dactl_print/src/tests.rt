@@ -29,7 +29,7 @@ fn fits_label(label: Label, arcs: &[Arc]) -> bool
 {
     match label {
         Label::Symbol(_) => true,
-        Label::Integer(_) => arcs.is_empty(),
+        Label::Integer(_) | Label::Character(_) => arcs.is_empty(),
     }
 }
 
@@ -48,7 +48,7 @@ fn is_symbol_among(label: Label, symbols: usize) -> bool
 {
     match label {
         Label::Symbol(number) => (number as usize) < symbols,
-        Label::Integer(_) => true,
+        Label::Integer(_) | Label::Character(_) => true,
     }
 }
 
@@ -98,6 +98,7 @@ fn program(alloc: Global) -> Result<Program, AllocError> {
             fresh: Items::from_vec(Vec::new(alloc)),
             root: 0,
         },
+        wide: true,
     })
 }
 
@@ -185,7 +186,7 @@ const APPENDED: [Drawn<'static>; 7] = [
 fn graphs_are_printed(rt: HostRuntime) -> Result<(), AllocError> {
     let alloc = rt.alloc();
     let program = program(alloc)?;
-    let rows: [(&[Drawn], u32, &str); 6] = [
+    let rows: [(&[Drawn], u32, &str); 7] = [
         (&APPENDED, 5, "@1 Cons[@2 @3]\n@2 Nil\n@3 Nil\n"),
         (
             &[
@@ -229,6 +230,15 @@ fn graphs_are_printed(rt: HostRuntime) -> Result<(), AllocError> {
             &[(Label::Symbol(3), Mark::Idle, &[(0, false), (0, false)])],
             0,
             "@1 F[@1 @1]\n",
+        ),
+        (
+            &[
+                (Label::Symbol(3), Mark::Idle, &[(1, false), (2, false)]),
+                (Label::Character(b'a'), Mark::Active, &[]),
+                (Label::Integer(i128::MAX), Mark::Idle, &[]),
+            ],
+            0,
+            "@1 F[@2 @3]\n@2 *'a'\n@3 170141183460469231731687303715884105727\n",
         ),
     ];
     for (nodes, root, text) in rows {

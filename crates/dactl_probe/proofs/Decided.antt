@@ -7,7 +7,7 @@ use Rattle.std.proofs.lemmas.List.Elements.{All-contains}
 use Rattle.std.proofs.lemmas.List.Folds.{list_any_at}
 use Rattle.std.proofs.lemmas.Option.{slice_get_within, get_or_from_slice_get, slice_get-get_or}
 use Rattle.dactl_model.specs.declared.graph.NodeId.{NodeId}
-use Rattle.dactl_model.specs.declared.graph.Label.TheVariants.{Symbol, Integer}
+use Rattle.dactl_model.specs.declared.graph.Label.TheVariants.{Symbol, Integer, Character}
 use Rattle.dactl_model.specs.declared.graph.Event.{Event}
 use Rattle.dactl_model.specs.declared.graph.Event.TheVariants as event
 use Rattle.dactl_model.specs.declared.reading.Reading.{Reading}
@@ -34,19 +34,19 @@ use Rattle.dactl_probe.specs.Verdicts.{HasRule, AreNo, IsYesInGroup, IsYesBeside
 use Rattle.dactl_probe.proofs.Rules.{no_yes, unknown_no, unknown_yes}
 
 -- the rule of the number is No
-abbrev pub IsNumberNo : List Rule → List Reading → NodeId → ℕ → Type 0
-IsNumberNo rules rs n s = (rule : Rule) → slice_get rules s ≡ Some rule → IsRuleNo rs n rule
+abbrev pub IsNumberNo : Program → List Reading → NodeId → ℕ → Type 0
+IsNumberNo p rs n s = (rule : Rule) → slice_get p.rules s ≡ Some rule → IsRuleNo p.wide rs n rule
 
-module _ (rules : List Rule) (f : ℕ) (rs : List Reading) (n : NodeId) (numbers : List ℕ) (are : AreRulesOf rules f numbers) where
+module _ (p : Program) (f : ℕ) (rs : List Reading) (n : NodeId) (numbers : List ℕ) (are : AreRulesOf p.rules f numbers) where
   -- each of the symbol's rules is among the numbers
-  pub number_of : (s : ℕ) (rule : Rule) → slice_get rules s ≡ Some rule → rule.symbol ≡ f → Contains numbers s
-  number_of s rule is symbol = are.whole s (slice_get_within rules s rule is) (has_root rules f s rule is symbol)
+  pub number_of : (s : ℕ) (rule : Rule) → slice_get p.rules s ≡ Some rule → rule.symbol ≡ f → Contains numbers s
+  number_of s rule is symbol = are.whole s (slice_get_within p.rules s rule is) (has_root p.rules f s rule is symbol)
 
-  pub all_no : All (IsNumberNo rules rs n) numbers → AreNo rules f rs n (length rules)
-  all_no all s rule below is symbol = All-contains (IsNumberNo rules rs n) numbers s all (number_of s rule is symbol) rule is
+  pub all_no : All (IsNumberNo p rs n) numbers → AreNo p f rs n (length p.rules)
+  all_no all s rule below is symbol = All-contains (IsNumberNo p rs n) numbers s all (number_of s rule is symbol) rule is
 
   -- the numbers ascend, so a lesser one stands before
-  pub before : (Q : ℕ → Type 0) (i d : ℕ) → i < length numbers → All Q (take i numbers) → (s : ℕ) (rule : Rule) → s < get_or numbers i d → slice_get rules s ≡ Some rule → rule.symbol ≡ f → Q s
+  pub before : (Q : ℕ → Type 0) (i d : ℕ) → i < length numbers → All Q (take i numbers) → (s : ℕ) (rule : Rule) → s < get_or numbers i d → slice_get p.rules s ≡ Some rule → rule.symbol ≡ f → Q s
   before Q i d inside all s rule below is symbol =
       let at = number_of s rule is symbol in
       let k = at.0 in
@@ -65,18 +65,14 @@ module _ (rules : List Rule) (f : ℕ) (rs : List Reading) (n : NodeId) (numbers
             | inr same_place ↦ (let at : k ≡ i = omega arith in let same : get_or numbers i d ≡ s = ap (λ j. get_or numbers j d) (sym at) ∙ (get_or_default numbers k d s within ∙ is_s) in omega (arith, same, below))
           ]
 
-  pub no_before : (i d : ℕ) → i < length numbers → All (IsNumberNo rules rs n) (take i numbers) → AreNo rules f rs n (get_or numbers i d)
-  no_before i d inside all s rule below is symbol = before (IsNumberNo rules rs n) i d inside all s rule below is symbol rule is
+  pub no_before : (i d : ℕ) → i < length numbers → All (IsNumberNo p rs n) (take i numbers) → AreNo p f rs n (get_or numbers i d)
+  no_before i d inside all s rule below is symbol = before (IsNumberNo p rs n) i d inside all s rule below is symbol rule is
 
-  -- the rule of a number in the list
-  pub open_rule : (i d : ℕ) (rule : Rule) (P : Rule → Type 0) → i < length numbers → slice_get rules (get_or numbers i d) ≡ Some rule → P rule → HasRule rules f (get_or numbers i d) P
-  open_rule i d rule P inside is holds = subst (λ o. IsSomeAnd o (λ x. (x.symbol ≡ f) × P x)) (sym is) (root_of rules f (get_or numbers i d) rule is (are.each i d inside).1, holds)
-
-  -- the same where the fact holds of whatever rule has the number
-  pub open_number : (i d : ℕ) (P : Rule → Type 0) → i < length numbers → ((rule : Rule) → slice_get rules (get_or numbers i d) ≡ Some rule → P rule) → HasRule rules f (get_or numbers i d) P
-  open_number i d P inside holds = at (slice_get rules (get_or numbers i d)) refl (are.each i d inside).1
+  -- a fact that holds of whatever rule has a number in the list
+  pub open_number : (i d : ℕ) (P : Rule → Type 0) → i < length numbers → ((rule : Rule) → slice_get p.rules (get_or numbers i d) ≡ Some rule → P rule) → HasRule p.rules f (get_or numbers i d) P
+  open_number i d P inside holds = at (slice_get p.rules (get_or numbers i d)) refl (are.each i d inside).1
     where
-      at : (o : Option Rule) → slice_get rules (get_or numbers i d) ≡ o → IsSomeAnd o (λ x. x.symbol ≡ f) → IsSomeAnd o (λ x. (x.symbol ≡ f) × P x)
+      at : (o : Option Rule) → slice_get p.rules (get_or numbers i d) ≡ o → IsSomeAnd o (λ x. x.symbol ≡ f) → IsSomeAnd o (λ x. (x.symbol ≡ f) × P x)
       at None is none = none
       at (Some rule) is symbol = (symbol, holds rule is)
 
@@ -97,39 +93,31 @@ rule_parts rules f r P has = at (slice_get rules r) refl has
     at None is none = absurd none
     at (Some rule) is both = record { rule = rule; is = is; symbol = both.0; holds = both.1 }
 
-pub no_here : (rules : List Rule) (rs : List Reading) (n : NodeId) (s : ℕ) (rule : Rule) → slice_get rules s ≡ Some rule → IsRuleNo rs n rule → IsNumberNo rules rs n s
-no_here rules rs n s rule is fails other also = subst (IsRuleNo rs n) (same_rule rules s rule other is also) fails
-
 -- the rule of the number is not in the group, or not Yes
-abbrev pub IsNotYes : List Rule → ℕ → List Reading → NodeId → ℕ → Type 0
-IsNotYes rules group rs n s = (rule : Rule) → slice_get rules s ≡ Some rule → rule.group ≡ group → IsRuleYes rs n rule → ⊥
+abbrev pub IsNotYes : Program → ℕ → List Reading → NodeId → ℕ → Type 0
+IsNotYes p group rs n s = (rule : Rule) → slice_get p.rules s ≡ Some rule → rule.group ≡ group → IsRuleYes p.wide rs n rule → ⊥
 
-pub all_not_yes : (rules : List Rule) (f group : ℕ) (rs : List Reading) (n : NodeId) (numbers : List ℕ) → AreRulesOf rules f numbers → All (IsNotYes rules group rs n) numbers → IsYesInGroup rules f group rs n None
-all_not_yes rules f group rs n numbers are all s rule is symbol = All-contains (IsNotYes rules group rs n) numbers s all (number_of rules f rs n numbers are s rule is symbol) rule is
+pub all_not_yes : (p : Program) (f group : ℕ) (rs : List Reading) (n : NodeId) (numbers : List ℕ) → AreRulesOf p.rules f numbers → All (IsNotYes p group rs n) numbers → IsYesInGroup p f group rs n None
+all_not_yes p f group rs n numbers are all s rule is symbol = All-contains (IsNotYes p group rs n) numbers s all (number_of p f rs n numbers are s rule is symbol) rule is
 
-pub not_yes_here : (rules : List Rule) (group : ℕ) (rs : List Reading) (n : NodeId) (s : ℕ) (rule : Rule) → slice_get rules s ≡ Some rule → ((rule.group ≡ group) × IsRuleYes rs n rule → ⊥) → IsNotYes rules group rs n s
-not_yes_here rules group rs n s rule is not_both other also same holds =
-    let e : other ≡ rule = same_rule rules s other rule also is in
-    not_both (ap (λ x. x.group) (sym e) ∙ same, subst (IsRuleYes rs n) e holds)
-
-module _ (rules : List Rule) (f : ℕ) (rs : List Reading) (n : NodeId) (numbers : List ℕ) (are : AreRulesOf rules f numbers) where
+module _ (p : Program) (f : ℕ) (rs : List Reading) (n : NodeId) (numbers : List ℕ) (are : AreRulesOf p.rules f numbers) where
   -- up to the first open rule none is Yes
-  pub not_yes_until : (group first i d : ℕ) → IsFirstWaiting rules f rs n first → i < length numbers → get_or numbers i d ≤ first → IsNotYes rules group rs n (get_or numbers i d)
+  pub not_yes_until : (group first i d : ℕ) → IsFirstWaiting p f rs n first → i < length numbers → get_or numbers i d ≤ first → IsNotYes p group rs n (get_or numbers i d)
   not_yes_until group first i d waiting inside until rule is same holds =
-      let symbol = root_of rules f (get_or numbers i d) rule is (are.each i d inside).1 in
+      let symbol = root_of p.rules f (get_or numbers i d) rule is (are.each i d inside).1 in
       elim (cases_lt (get_or numbers i d) first) [
-        | inl before_it ↦ no_yes rs n rule (waiting.0 (get_or numbers i d) rule before_it is symbol) holds
+        | inl before_it ↦ no_yes p.wide rs n rule (waiting.0 (get_or numbers i d) rule before_it is symbol) holds
         | inr not_before ↦ (
             let at : get_or numbers i d ≡ first = omega (arith, until, not_before) in
-            let parts = rule_parts rules f first (λ x. IsRuleUnknown rs n x) waiting.1 in
-            let one = same_rule rules first parts.rule rule parts.is (ap (slice_get rules) (sym at) ∙ is) in
-            unknown_yes rs n rule (subst (IsRuleUnknown rs n) one parts.holds) holds)
+            let parts = rule_parts p.rules f first (λ x. IsRuleUnknown rs n x) waiting.1 in
+            let one = same_rule p.rules first parts.rule rule parts.is (ap (slice_get p.rules) (sym at) ∙ is) in
+            unknown_yes p.wide rs n rule (subst (IsRuleUnknown rs n) one parts.holds) holds)
       ]
 
   -- where none of its group is Yes, none beside the first rule is
-  pub none_beside : (first : ℕ) (rule : Rule) → slice_get rules first ≡ Some rule → All (IsNotYes rules rule.group rs n) numbers → IsYesBeside rules f first rs n None
+  pub none_beside : (first : ℕ) (rule : Rule) → slice_get p.rules first ≡ Some rule → All (IsNotYes p rule.group rs n) numbers → IsYesBeside p f first rs n None
   none_beside first rule is all other is_other =
-      subst (λ x. IsYesInGroup rules f x.group rs n None) (same_rule rules first rule other is is_other) (all_not_yes rules f rule.group rs n numbers are all)
+      subst (λ x. IsYesInGroup p f x.group rs n None) (same_rule p.rules first rule other is is_other) (all_not_yes p f rule.group rs n numbers are all)
 
 -- a rule whose head is another symbol is No
 module _ (rs : List Reading) (n : NodeId) (r : Reading) (read : reading_of rs n ≡ Some r) where
@@ -152,7 +140,9 @@ module _ (rs : List Reading) (n : NodeId) (r : Reading) (read : reading_of rs n 
   head_fails = pat_induction HeadFails (record {
     any = level Pat-F.Any (λ g is differs. cc);
     int = level Pat-F.Int (λ g is differs. cc);
+    char = level Pat-F.Char (λ g is differs. cc);
     literal = λ i. level (Pat-F.Literal i) (λ g is differs. cc);
+    letter = λ c. level (Pat-F.Letter c) (λ g is differs. cc);
     symbol = λ f args each. level (Pat-F.Sym f args) (λ g is differs. let same : f ≡ g = cc in symbol_fails f args (reading_of rs n) read (ap (has_symbol r.label) same ∙ differs));
     bind = λ v q ih. level (Pat-F.Bind v q) (λ g is differs. ih g is differs);
     union = λ q s left right. level (Pat-F.Union q s) (λ g is differs. cc);
@@ -160,7 +150,7 @@ module _ (rs : List Reading) (n : NodeId) (r : Reading) (read : reading_of rs n 
   })
 
 module _ (p : Program) (valid : IsValid p) (rs : List Reading) (n : NodeId) where
-  other_no : (r : Reading) → reading_of rs n ≡ Some r → (s : ℕ) (rule : Rule) → slice_get p.rules s ≡ Some rule → has_symbol r.label rule.symbol ≡ false → IsRuleNo rs n rule
+  other_no : (r : Reading) → reading_of rs n ≡ Some r → (s : ℕ) (rule : Rule) → slice_get p.rules s ≡ Some rule → has_symbol r.label rule.symbol ≡ false → IsRuleNo p.wide rs n rule
   other_no r read s rule is differs = inl (head_fails rs n r read rule.pattern rule.symbol (valid.rules s rule is).head differs)
 
   -- the reading of the node
@@ -196,7 +186,7 @@ module _ (p : Program) (valid : IsValid p) (rs : List Reading) (n : NodeId) wher
         | false ↦ λ same. refl
       ]) refl
 
-  symbol_or_no : (f : ℕ) → HasSymbolRead rs n f → (s : ℕ) (rule : Rule) → slice_get p.rules s ≡ Some rule → (rule.symbol ≡ f) ⊎ IsRuleNo rs n rule
+  symbol_or_no : (f : ℕ) → HasSymbolRead rs n f → (s : ℕ) (rule : Rule) → slice_get p.rules s ≡ Some rule → (rule.symbol ≡ f) ⊎ IsRuleNo p.wide rs n rule
   symbol_or_no f has s rule is = elim (symbol_or_fails f has s rule is) [ inl symbol ↦ inl symbol | inr fails ↦ inr (inl fails) ]
 
   -- groups rise along the rules
@@ -217,7 +207,7 @@ module _ (p : Program) (valid : IsValid p) (rs : List Reading) (n : NodeId) wher
         ]
       ]
 
-  pub notes : (f : ℕ) → HasSymbolRead rs n f → AreNo p.rules f rs n (length p.rules) → ShowsNote p rs n
+  pub notes : (f : ℕ) → HasSymbolRead rs n f → AreNo p f rs n (length p.rules) → ShowsNote p rs n
   notes f has none = record {
     read = is_read (symbol_read f has).reading (symbol_read f has).is;
     none = λ k d within. (let is = slice_get-get_or p.rules k d within in
@@ -227,14 +217,19 @@ module _ (p : Program) (valid : IsValid p) (rs : List Reading) (n : NodeId) wher
         ]);
   }
 
-  pub notes_integer : (r : Reading) (i : ℤ) → reading_of rs n ≡ Some r → r.label ≡ Integer i → ShowsNote p rs n
-  notes_integer r i is label = record {
+  -- an integer or a character has no symbol
+  pub notes_atom : (r : Reading) → reading_of rs n ≡ Some r → ((i : ℤ) × (r.label ≡ Integer i)) ⊎ ((c : ℕ) × (r.label ≡ Character c)) → ShowsNote p rs n
+  notes_atom r is atom = record {
     read = is_read r is;
-    none = λ k d within. other_no r is k (get_or p.rules k d) (slice_get-get_or p.rules k d within) (ap (λ l. has_symbol l (get_or p.rules k d).symbol) label);
+    none = λ k d within. other_no r is k (get_or p.rules k d) (slice_get-get_or p.rules k d within) (other (get_or p.rules k d).symbol atom);
   }
+    where
+      other : (f : ℕ) → ((i : ℤ) × (r.label ≡ Integer i)) ⊎ ((c : ℕ) × (r.label ≡ Character c)) → has_symbol r.label f ≡ false
+      other f (inl (i, label)) = ap (λ l. has_symbol l f) label
+      other f (inr (c, label)) = ap (λ l. has_symbol l f) label
 
   -- a rule fires that is Yes, where the rules before one of its group are No
-  pub fires : (f r q : ℕ) (rule first : Rule) → HasSymbolRead rs n f → slice_get p.rules r ≡ Some rule → rule.symbol ≡ f → IsRuleYes rs n rule → slice_get p.rules q ≡ Some first → rule.group ≡ first.group → AreNo p.rules f rs n q
+  pub fires : (f r q : ℕ) (rule first : Rule) → HasSymbolRead rs n f → slice_get p.rules r ≡ Some rule → rule.symbol ≡ f → IsRuleYes p.wide rs n rule → slice_get p.rules q ≡ Some first → rule.group ≡ first.group → AreNo p f rs n q
       → (bindings : List NodeId) × ShowsFire p rs n r bindings
   fires f r q rule first has is symbol holds is_first group none = (
     bindings_told rs n rule,
@@ -254,19 +249,19 @@ module _ (p : Program) (valid : IsValid p) (rs : List Reading) (n : NodeId) wher
   )
 
   -- where the first open rule waits and none of its group is Yes, nothing is decided
-  pub undecided : (f q : ℕ) (first : Rule) → HasSymbolRead rs n f → slice_get p.rules q ≡ Some first → first.symbol ≡ f → IsRuleUnknown rs n first → AreNo p.rules f rs n q → IsYesInGroup p.rules f first.group rs n None → IsUndecided p rs n
+  pub undecided : (f q : ℕ) (first : Rule) → HasSymbolRead rs n f → slice_get p.rules q ≡ Some first → first.symbol ≡ f → IsRuleUnknown rs n first → AreNo p f rs n q → IsYesInGroup p f first.group rs n None → IsUndecided p rs n
   undecided f q first has is_first symbol unknown none no_yes_there (event.Note m) at shows =
       let shown = shows.1 in
-      unknown_no rs m first (subst (λ k. IsRuleUnknown rs k first) (sym at) unknown) (subst (IsRuleNo rs m) (get_or_from_slice_get p.rules q first first is_first) (shown.none q first (slice_get_within p.rules q first is_first)))
+      unknown_no p.wide rs m first (subst (λ k. IsRuleUnknown rs k first) (sym at) unknown) (subst (IsRuleNo p.wide rs m) (get_or_from_slice_get p.rules q first first is_first) (shown.none q first (slice_get_within p.rules q first is_first)))
   undecided f q first has is_first symbol unknown none no_yes_there (event.Fire m r) at shows = at_n (subst (λ k. ShowsFire p rs k r shows.0) at shows.1)
     where
       at_n : ShowsFire p rs n r shows.0 → ⊥
       at_n shown = elim (symbol_or_no f has r shown.rule shown.is_rule) [
-        | inr fails ↦ no_yes rs n shown.rule fails shown.yes
+        | inr fails ↦ no_yes p.wide rs n shown.rule fails shown.yes
         | inl root ↦ elim (cases_lt shown.rule.group first.group) [
-          | inl before ↦ no_yes rs n shown.rule (none r shown.rule (rises r q shown.rule first shown.is_rule is_first before) shown.is_rule root) shown.yes
+          | inl before ↦ no_yes p.wide rs n shown.rule (none r shown.rule (rises r q shown.rule first shown.is_rule is_first before) shown.is_rule root) shown.yes
           | inr not_before ↦ elim (cases_lt first.group shown.rule.group) [
-            | inl later ↦ unknown_no rs n first unknown (shown.first q first is_first (record { earlier = first; later = shown.rule; is_earlier = is_first; is_later = shown.is_rule; symbol = symbol ∙ sym root; group = later }))
+            | inl later ↦ unknown_no p.wide rs n first unknown (shown.first q first is_first (record { earlier = first; later = shown.rule; is_earlier = is_first; is_later = shown.is_rule; symbol = symbol ∙ sym root; group = later }))
             | inr same_group ↦ no_yes_there r shown.rule shown.is_rule root (omega arith) shown.yes
           ]
         ]
@@ -289,7 +284,7 @@ module _ (p : Program) (valid : IsValid p) (rs : List Reading) (n : NodeId) wher
       or_right true b e = refl
       or_right false b e = e
 
-  pub needs_now : (f q : ℕ) (first : Rule) (m : NodeId) → HasSymbolRead rs n f → slice_get p.rules q ≡ Some first → first.symbol ≡ f → IsRuleUnknown rs n first → Needs rs first.pattern n m → AreNo p.rules f rs n q → IsYesInGroup p.rules f first.group rs n None → IsNeed p rs n m
+  pub needs_now : (f q : ℕ) (first : Rule) (m : NodeId) → HasSymbolRead rs n f → slice_get p.rules q ≡ Some first → first.symbol ≡ f → IsRuleUnknown rs n first → Needs rs first.pattern n m → AreNo p f rs n q → IsYesInGroup p f first.group rs n None → IsNeed p rs n m
   needs_now f q first m has is_first symbol unknown needs none no_yes_there = record {
     unread = needs.unread;
     undecided = undecided f q first has is_first symbol unknown none no_yes_there;
@@ -311,19 +306,19 @@ module _ (p : Program) (valid : IsValid p) (rs : List Reading) (n : NodeId) wher
       nothing (event.Fire m r) at shows = unread_some m at shows.1.read
       nothing (event.Note m) at shows = unread_some m at shows.1.read
 
-  pub fires_first : (f r : ℕ) → HasSymbolRead rs n f → AreNo p.rules f rs n r → HasRule p.rules f r (λ rule. IsRuleYes rs n rule) → (bindings : List NodeId) × ShowsFire p rs n r bindings
+  pub fires_first : (f r : ℕ) → HasSymbolRead rs n f → AreNo p f rs n r → HasRule p.rules f r (λ rule. IsRuleYes p.wide rs n rule) → (bindings : List NodeId) × ShowsFire p rs n r bindings
   fires_first f r has none opened =
-      let parts = rule_parts p.rules f r (λ rule. IsRuleYes rs n rule) opened in
+      let parts = rule_parts p.rules f r (λ rule. IsRuleYes p.wide rs n rule) opened in
       fires f r r parts.rule parts.rule has parts.is parts.symbol parts.holds parts.is refl none
 
   -- a rule of the group of the first open one
-  pub fires_beside : (f r q : ℕ) (m : NodeId) → HasSymbolRead rs n f → AreNo p.rules f rs n q → HasRule p.rules f q (λ rule. IsRuleUnknown rs n rule × Needs rs rule.pattern n m) → IsYesBeside p.rules f q rs n (Some r) → (bindings : List NodeId) × ShowsFire p rs n r bindings
+  pub fires_beside : (f r q : ℕ) (m : NodeId) → HasSymbolRead rs n f → AreNo p f rs n q → HasRule p.rules f q (λ rule. IsRuleUnknown rs n rule × Needs rs rule.pattern n m) → IsYesBeside p f q rs n (Some r) → (bindings : List NodeId) × ShowsFire p rs n r bindings
   fires_beside f r q m has none opened beside =
       let first = rule_parts p.rules f q (λ rule. IsRuleUnknown rs n rule × Needs rs rule.pattern n m) opened in
-      let parts = rule_parts p.rules f r (λ rule. (rule.group ≡ first.rule.group) × IsRuleYes rs n rule) (beside first.rule first.is) in
+      let parts = rule_parts p.rules f r (λ rule. (rule.group ≡ first.rule.group) × IsRuleYes p.wide rs n rule) (beside first.rule first.is) in
       fires f r q parts.rule first.rule has parts.is parts.symbol parts.holds.1 first.is parts.holds.0 none
 
-  pub needs_first : (f q : ℕ) (m : NodeId) → HasSymbolRead rs n f → AreNo p.rules f rs n q → HasRule p.rules f q (λ rule. IsRuleUnknown rs n rule × Needs rs rule.pattern n m) → IsYesBeside p.rules f q rs n None → IsNeed p rs n m
+  pub needs_first : (f q : ℕ) (m : NodeId) → HasSymbolRead rs n f → AreNo p f rs n q → HasRule p.rules f q (λ rule. IsRuleUnknown rs n rule × Needs rs rule.pattern n m) → IsYesBeside p f q rs n None → IsNeed p rs n m
   needs_first f q m has none opened beside =
       let parts = rule_parts p.rules f q (λ rule. IsRuleUnknown rs n rule × Needs rs rule.pattern n m) opened in
       needs_now f q parts.rule m has parts.is parts.symbol parts.holds.0 parts.holds.1 none (beside parts.rule parts.is)

@@ -8,7 +8,7 @@ use Rattle.dactl_model.specs.declared.program.Pat.{Pat}
 use Rattle.dactl_model.specs.declared.program.Pat.TheOpen.{Pat-F}
 use Rattle.dactl_model.specs.declared.program.Pat.TheViews.{roll-Pat}
 use Rattle.dactl_model.specs.declared.program.Pat.TheFolds.{fold-roll-Pat, map-Pat}
-use Rattle.dactl_model.specs.Patterns.{has_symbol, is_integer, has_integer}
+use Rattle.dactl_model.specs.Patterns.{has_symbol, is_integer, has_integer, is_character, has_character}
 use Rattle.dactl_model.specs.Readings as told
 use Rattle.dactl_model.specs.Readings.{Value, Told, least, greatest, opposite, answer, told_label, told_all, told_symbol, told_symbol_at, reading_of, targets_of}
 use Rattle.dactl_model.proofs.Induction.{Each, pat_induction}
@@ -169,7 +169,9 @@ module _ (rs : List Reading) where
   founds = pat_induction IsFound (record {
     any = level Pat-F.Any (λ n. refl) (λ n m e. cc);
     int = level Pat-F.Int (λ n. label_value (reading_of rs n) n is_integer) (λ n m e. label_needs Pat-F.Int (reading_of rs n) n m is_integer (λ path root. tests_roll Pat-F.Int path ∙ root) refl e);
+    char = level Pat-F.Char (λ n. label_value (reading_of rs n) n is_character) (λ n m e. label_needs Pat-F.Char (reading_of rs n) n m is_character (λ path root. tests_roll Pat-F.Char path ∙ root) refl e);
     literal = λ i. level (Pat-F.Literal i) (λ n. label_value (reading_of rs n) n (λ l. has_integer l i)) (λ n m e. label_needs (Pat-F.Literal i) (reading_of rs n) n m (λ l. has_integer l i) (λ path root. tests_roll (Pat-F.Literal i) path ∙ root) refl e);
+    letter = λ c. level (Pat-F.Letter c) (λ n. label_value (reading_of rs n) n (λ l. has_character l c)) (λ n m e. label_needs (Pat-F.Letter c) (reading_of rs n) n m (λ l. has_character l c) (λ path root. tests_roll (Pat-F.Letter c) path ∙ root) refl e);
     symbol = λ f args each. level (Pat-F.Sym f args) (λ n. symbol_value f args each (reading_of rs n) n) (λ n m e. symbol_needs f args each (reading_of rs n) n m refl e);
     bind = λ v q ih. level (Pat-F.Bind v q) (λ n. ih.value n) (λ n m e. through (Pat-F.Bind v q) q n m (λ path t. tests_roll (Pat-F.Bind v q) path ∙ t) (ih.needs n m e));
     union = λ q s left right. level (Pat-F.Union q s)

@@ -10,7 +10,7 @@ use Rattle.dactl_model.specs.declared.program.Pat.TheOpen.{Pat-F}
 use Rattle.dactl_model.specs.declared.program.Pat.TheViews.{roll-Pat}
 use Rattle.dactl_model.specs.declared.program.Pat.TheFolds.{map-Pat}
 use Rattle.dactl_model.specs.declared.program.Rule.{Rule}
-use Rattle.dactl_model.specs.Patterns.{has_symbol, is_integer, has_integer}
+use Rattle.dactl_model.specs.Patterns.{has_symbol, is_integer, has_integer, is_character, has_character}
 use Rattle.dactl_model.specs.Readings.{Value, No, Unknown, Yes, Told, least, greatest, opposite, told, told_level, told_label, told_all, told_symbol, told_symbol_at, reading_of, targets_of}
 use Rattle.dactl_model.specs.RuleTold.{no_conflict}
 use Rattle.dactl_model.proofs.Induction.{Each, pat_induction}
@@ -160,7 +160,9 @@ module _ (rs more : List Reading) where
   kept = pat_induction IsKept (record {
     any = level Pat-F.Any (λ n. stays_same (record { value = Yes; pairs = [] }));
     int = level Pat-F.Int (λ n. label is_integer (reading_of rs n) (reading_of (rs ++ more) n) (read_more rs more n));
+    char = level Pat-F.Char (λ n. label is_character (reading_of rs n) (reading_of (rs ++ more) n) (read_more rs more n));
     literal = λ i. level (Pat-F.Literal i) (λ n. label (λ l. has_integer l i) (reading_of rs n) (reading_of (rs ++ more) n) (read_more rs more n));
+    letter = λ c. level (Pat-F.Letter c) (λ n. label (λ l. has_character l c) (reading_of rs n) (reading_of (rs ++ more) n) (read_more rs more n));
     symbol = λ f args each. level (Pat-F.Sym f args) (λ n. symbol f args each (reading_of rs n) (reading_of (rs ++ more) n) (read_more rs more n));
     bind = λ v q ih. level (Pat-F.Bind v q) (λ n. stays_bound (told rs q n) (told (rs ++ more) q n) (v, n) (ih n));
     union = λ q s left right. level (Pat-F.Union q s) (λ n. record {

@@ -12,7 +12,7 @@ use Rattle.dactl_model.specs.declared.program.Pat.TheOpen.{Pat-F}
 use Rattle.dactl_model.specs.declared.program.Pat.TheViews.{roll-Pat}
 use Rattle.dactl_model.specs.declared.program.Pat.TheFolds.{fold-roll-Pat, map-Pat}
 use Rattle.dactl_model.specs.declared.program.Rule.{Rule}
-use Rattle.dactl_model.specs.Patterns.{has_symbol, is_integer, has_integer, same_node}
+use Rattle.dactl_model.specs.Patterns.{has_symbol, is_integer, has_integer, is_character, has_character, same_node}
 use Rattle.dactl_model.specs.Readings.{Value, No, Unknown, Yes, Told, least, opposite, told, told_level, told_label, told_all, told_symbol, told_symbol_at, reading_of, targets_of}
 use Rattle.dactl_model.specs.RuleTold.{no_conflict, pair_node, pair_nodes, bindings_told}
 use Rattle.dactl_model.proofs.Induction.{Each, pat_induction}
@@ -164,7 +164,9 @@ module _ (rs : List Reading) where
   ascending = pat_induction IsAscending (record {
     any = bare Pat-F.Any (λ k. refl) (λ n. refl);
     int = bare Pat-F.Int (λ k. refl) (λ n. no_pairs (reading_of rs n) is_integer);
+    char = bare Pat-F.Char (λ k. refl) (λ n. no_pairs (reading_of rs n) is_character);
     literal = λ i. bare (Pat-F.Literal i) (λ k. refl) (λ n. no_pairs (reading_of rs n) (λ l. has_integer l i));
+    letter = λ c. bare (Pat-F.Letter c) (λ k. refl) (λ n. no_pairs (reading_of rs n) (λ l. has_character l c));
     symbol = λ f args each. level (Pat-F.Sym f args) (λ k m e. all_grow args each k m e) (λ k m n e. symbol_rise f args each (reading_of rs n) k m e) (λ k m n e sure. symbol_count f args each (reading_of rs n) k m e sure);
     bind = bind;
     union = λ q s left right. bare (Pat-F.Union q s) (λ k. refl) (λ n. refl);

@@ -19,29 +19,29 @@ use Rattle.dactl_probe.specs.Verdicts.{HasSymbolRead, IsRuleFound, IsNumberFound
 use Rattle.dactl_probe.proofs.Rules.{no_yes, unknown_yes}
 use Rattle.dactl_probe.proofs.Decided.{IsNumberNo, IsNotYes, before, symbol_or_fails, same_rule, rises}
 
-pub lost_no : (rs : List Reading) (n : NodeId) (rule : Rule) → IsRuleLost rs n rule → IsRuleNo rs n rule
-lost_no rs n rule (inl fails) = inl fails
-lost_no rs n rule (inr conflict) = inr (inl conflict)
+pub lost_no : (wide : Bool) (rs : List Reading) (n : NodeId) (rule : Rule) → IsRuleLost rs n rule → IsRuleNo wide rs n rule
+lost_no wide rs n rule (inl fails) = inl fails
+lost_no wide rs n rule (inr conflict) = inr (inl conflict)
 
-module _ (rules : List Rule) (rs : List Reading) (n : NodeId) (k : Lost) (lost : AreLost rules rs n k) (numbers : List ℕ) where
-  pub taken_no : (i : ℕ) → All (λ r. r < k.below) (take i numbers) → All (IsNumberNo rules rs n) (take i numbers)
-  taken_no i all j d within rule is = lost_no rs n rule (lost (get_or (take i numbers) j d) rule (inl (all j d within)) is)
+module _ (p : Program) (rs : List Reading) (n : NodeId) (k : Lost) (lost : AreLost p.rules rs n k) (numbers : List ℕ) where
+  pub taken_no : (i : ℕ) → All (λ r. r < k.below) (take i numbers) → All (IsNumberNo p rs n) (take i numbers)
+  taken_no i all j d within rule is = lost_no p.wide rs n rule (lost (get_or (take i numbers) j d) rule (inl (all j d within)) is)
 
-  pub taken_not_yes : (group i : ℕ) → All (λ r. r < k.below) (take i numbers) → All (IsNotYes rules group rs n) (take i numbers)
-  taken_not_yes group i all j d within rule is same holds = no_yes rs n rule (lost_no rs n rule (lost (get_or (take i numbers) j d) rule (inl (all j d within)) is)) holds
+  pub taken_not_yes : (group i : ℕ) → All (λ r. r < k.below) (take i numbers) → All (IsNotYes p group rs n) (take i numbers)
+  taken_not_yes group i all j d within rule is same holds = no_yes p.wide rs n rule (lost_no p.wide rs n rule (lost (get_or (take i numbers) j d) rule (inl (all j d within)) is)) holds
 
-pub lost_not_yes : (rules : List Rule) (group : ℕ) (rs : List Reading) (n : NodeId) (s : ℕ) → IsNumberFound rules rs n s found.Lost → IsNotYes rules group rs n s
-lost_not_yes rules group rs n s fails rule is same holds = no_yes rs n rule (lost_no rs n rule (fails rule is)) holds
+pub lost_not_yes : (p : Program) (group : ℕ) (rs : List Reading) (n : NodeId) (s : ℕ) → IsNumberFound p rs n s found.Lost → IsNotYes p group rs n s
+lost_not_yes p group rs n s fails rule is same holds = no_yes p.wide rs n rule (lost_no p.wide rs n rule (fails rule is)) holds
 
 -- a rule that is No or not known yet is not Yes
-pub open_not_yes : (rules : List Rule) (group : ℕ) (rs : List Reading) (n : NodeId) (s : ℕ) (x : Found) → (x ≡ found.No) ⊎ ((m : NodeId) × (x ≡ found.Unknown m)) → IsNumberFound rules rs n s x → IsNotYes rules group rs n s
-open_not_yes rules group rs n s x (inl fails) is rule at same holds = no_yes rs n rule (subst (IsRuleFound rs n rule) fails (is rule at)) holds
-open_not_yes rules group rs n s x (inr (m, waits)) is rule at same holds = unknown_yes rs n rule (subst (IsRuleFound rs n rule) waits (is rule at)).0 holds
+pub open_not_yes : (p : Program) (group : ℕ) (rs : List Reading) (n : NodeId) (s : ℕ) (x : Found) → (x ≡ found.No) ⊎ ((m : NodeId) × (x ≡ found.Unknown m)) → IsNumberFound p rs n s x → IsNotYes p group rs n s
+open_not_yes p group rs n s x (inl fails) is rule at same holds = no_yes p.wide rs n rule (subst (IsRuleFound p.wide rs n rule) fails (is rule at)) holds
+open_not_yes p group rs n s x (inr (m, waits)) is rule at same holds = unknown_yes p.wide rs n rule (subst (IsRuleFound p.wide rs n rule) waits (is rule at)).0 holds
 
 -- the rules at the first i places are No, and passed where each of them is lost
-pub record IsSwept (rules : List Rule) (rs : List Reading) (n : NodeId) (numbers : List ℕ) (k : Lost) (passing : Bool) (i : ℕ) : Type 0 where
-  pub lost : AreLost rules rs n k
-  pub none : All (IsNumberNo rules rs n) (take i numbers)
+pub record IsSwept (p : Program) (rs : List Reading) (n : NodeId) (numbers : List ℕ) (k : Lost) (passing : Bool) (i : ℕ) : Type 0 where
+  pub lost : AreLost p.rules rs n k
+  pub none : All (IsNumberNo p rs n) (take i numbers)
   pub passed : passing ≡ true → All (λ r. r < k.below) (take i numbers)
 
 -- where the last of the first numbers is below the bound, they all are
@@ -57,10 +57,10 @@ all_below numbers ascending i bound some inside last k d within =
     ]
 
 -- a lost rule was added
-pub lost_added : (rules : List Rule) (rs : List Reading) (n : NodeId) (old new : Lost) (number : ℕ) → AreLost rules rs n old → ((s : ℕ) → IsKnownLost new s → (s ≡ number) ⊎ IsKnownLost old s) → IsNumberFound rules rs n number found.Lost → AreLost rules rs n new
-lost_added rules rs n old new number are either fails s other known is_other =
+pub lost_added : (p : Program) (rs : List Reading) (n : NodeId) (old new : Lost) (number : ℕ) → AreLost p.rules rs n old → ((s : ℕ) → IsKnownLost new s → (s ≡ number) ⊎ IsKnownLost old s) → IsNumberFound p rs n number found.Lost → AreLost p.rules rs n new
+lost_added p rs n old new number are either fails s other known is_other =
     elim (either s known) [
-      | inl same ↦ fails other (ap (slice_get rules) (sym same) ∙ is_other)
+      | inl same ↦ fails other (ap (slice_get p.rules) (sym same) ∙ is_other)
       | inr before_it ↦ are s other before_it is_other
     ]
 
@@ -77,38 +77,38 @@ below_next numbers ascending i d inside j e within =
 
 module _ (p : Program) (valid : IsValid p) (rs : List Reading) (n : NodeId) (f : ℕ) (numbers : List ℕ) (are : AreRulesOf p.rules f numbers) where
   -- the next rule of the symbol is lost, and so are those before it, which have other symbols or were passed
-  lost_next : (k : Lost) (i d count : ℕ) → HasSymbolRead rs n f → AreLost p.rules rs n k → All (λ r. r < k.below) (take i numbers) → i < length numbers → IsNumberFound p.rules rs n (get_or numbers i d) found.Lost
+  lost_next : (k : Lost) (i d count : ℕ) → HasSymbolRead rs n f → AreLost p.rules rs n k → All (λ r. r < k.below) (take i numbers) → i < length numbers → IsNumberFound p rs n (get_or numbers i d) found.Lost
       → AreLost p.rules rs n (record { below = get_or numbers i d + 1; count = count; marks = k.marks })
   lost_next k i d count has lost passed inside fails s other (inr marked) is_other = lost s other (inr marked) is_other
   lost_next k i d count has lost passed inside fails s other (inl below) is_other =
       elim (cases_lt s (get_or numbers i d)) [
         | inl earlier ↦ elim (symbol_or_fails p valid rs n f has s other is_other) [
-          | inl symbol ↦ lost s other (inl (before p.rules f rs n numbers are (λ r. r < k.below) i d inside passed s other earlier is_other symbol)) is_other
+          | inl symbol ↦ lost s other (inl (before p f rs n numbers are (λ r. r < k.below) i d inside passed s other earlier is_other symbol)) is_other
           | inr other_fails ↦ inl other_fails
         ]
         | inr not_earlier ↦ (let same_number : get_or numbers i d ≡ s = omega (arith, below) in fails other (ap (slice_get p.rules) same_number ∙ is_other))
       ]
 
   -- one more rule is No
-  none_next : (i d : ℕ) → i < length numbers → All (IsNumberNo p.rules rs n) (take i numbers) → IsNumberNo p.rules rs n (get_or numbers i d) → All (IsNumberNo p.rules rs n) (take (i + 1) numbers)
-  none_next i d inside none fails = All-more (IsNumberNo p.rules rs n) numbers i d inside none fails
+  none_next : (i d : ℕ) → i < length numbers → All (IsNumberNo p rs n) (take i numbers) → IsNumberNo p rs n (get_or numbers i d) → All (IsNumberNo p rs n) (take (i + 1) numbers)
+  none_next i d inside none fails = All-more (IsNumberNo p rs n) numbers i d inside none fails
 
-  pub swept_passed : (k new : Lost) (passing : Bool) (i d count : ℕ) → HasSymbolRead rs n f → IsSwept p.rules rs n numbers k passing i → passing ≡ true → i < length numbers → IsNumberFound p.rules rs n (get_or numbers i d) found.Lost
-      → new ≡ record k { below = get_or numbers i d + 1; count = count } → IsSwept p.rules rs n numbers new passing (i + 1)
+  pub swept_passed : (k new : Lost) (passing : Bool) (i d count : ℕ) → HasSymbolRead rs n f → IsSwept p rs n numbers k passing i → passing ≡ true → i < length numbers → IsNumberFound p rs n (get_or numbers i d) found.Lost
+      → new ≡ record k { below = get_or numbers i d + 1; count = count } → IsSwept p rs n numbers new passing (i + 1)
   swept_passed k new passing i d count has so is inside fails changed = record {
     lost = subst (AreLost p.rules rs n) (sym changed) (lost_next k i d count has so.lost (so.passed is) inside fails);
-    none = none_next i d inside so.none (λ rule at. lost_no rs n rule (fails rule at));
+    none = none_next i d inside so.none (λ rule at. lost_no p.wide rs n rule (fails rule at));
     passed = λ e. subst (λ b. All (λ r. r < b) (take (i + 1) numbers)) (sym (ap (λ l. l.below) changed)) (below_next numbers are.ascending i d inside);
   }
 
-  pub swept_lost : (k : Lost) (passing : Bool) (i d : ℕ) → IsSwept p.rules rs n numbers k passing i → passing ≡ false → i < length numbers → IsNumberFound p.rules rs n (get_or numbers i d) found.Lost → IsSwept p.rules rs n numbers k passing (i + 1)
+  pub swept_lost : (k : Lost) (passing : Bool) (i d : ℕ) → IsSwept p rs n numbers k passing i → passing ≡ false → i < length numbers → IsNumberFound p rs n (get_or numbers i d) found.Lost → IsSwept p rs n numbers k passing (i + 1)
   swept_lost k passing i d so is inside fails = record {
     lost = so.lost;
-    none = none_next i d inside so.none (λ rule at. lost_no rs n rule (fails rule at));
+    none = none_next i d inside so.none (λ rule at. lost_no p.wide rs n rule (fails rule at));
     passed = λ e. let clash : false ≡ true = sym is ∙ e in cc;
   }
 
-  pub swept_no : (k : Lost) (passing : Bool) (i d : ℕ) → IsSwept p.rules rs n numbers k passing i → i < length numbers → IsNumberFound p.rules rs n (get_or numbers i d) found.No → IsSwept p.rules rs n numbers k false (i + 1)
+  pub swept_no : (k : Lost) (passing : Bool) (i d : ℕ) → IsSwept p rs n numbers k passing i → i < length numbers → IsNumberFound p rs n (get_or numbers i d) found.No → IsSwept p rs n numbers k false (i + 1)
   swept_no k passing i d so inside fails = record {
     lost = so.lost;
     none = none_next i d inside so.none fails;
@@ -123,13 +123,13 @@ module _ (p : Program) (valid : IsValid p) (rs : List Reading) (n : NodeId) (f :
   ]
 
   -- behind a rule of a later group there is none of the group
-  pub no_more : (group i d : ℕ) (rule : Rule) → i < length numbers → slice_get p.rules (get_or numbers i d) ≡ Some rule → group < rule.group → All (IsNotYes p.rules group rs n) (take i numbers) → All (IsNotYes p.rules group rs n) numbers
+  pub no_more : (group i d : ℕ) (rule : Rule) → i < length numbers → slice_get p.rules (get_or numbers i d) ≡ Some rule → group < rule.group → All (IsNotYes p group rs n) (take i numbers) → All (IsNotYes p group rs n) numbers
   no_more group i d rule inside is later all j e within other is_other same holds =
       elim (cases_lt j i) [
         | inl before_i ↦ (
             let there : j < length (take i numbers) = omega (arith, length-take i numbers) in
             let at : get_or (take i numbers) j e ≡ get_or numbers j e = get_or-take i numbers j e before_i in
-            subst (IsNotYes p.rules group rs n) at (all j e there) other is_other same holds)
+            subst (IsNotYes p group rs n) at (all j e there) other is_other same holds)
         | inr from_i ↦ elim (cases_lt i j) [
           | inl behind ↦ (
               let ascends : get_or numbers i d < get_or numbers j d = are.ascending i j d behind within in

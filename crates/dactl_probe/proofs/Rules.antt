@@ -1,5 +1,5 @@
 -- What a look at a rule finds.
-use Rattle.std.proofs.Common.{◌≡◌, ℕ, zero, suc, ◌+◌, ◌<◌, ◌≤◌, ◌++◌, take, true, false, List, [], ◌∷◌, length, refl, sym, ◌∙◌, ap, arith, slice_get, Some, inl, inr, unwrap_or}
+use Rattle.std.proofs.Common.{◌≡◌, ℕ, zero, suc, ◌+◌, ◌<◌, ◌≤◌, ◌++◌, take, Bool, true, false, List, [], ◌∷◌, length, refl, sym, ◌∙◌, ap, arith, slice_get, Some, inl, inr, unwrap_or}
 use Rattle.std.proofs.lemmas.List.{take_more, take_all}
 use Rattle.std.proofs.lemmas.Option.{unwrap_or-slice_get}
 use Rattle.dactl_model.specs.declared.graph.NodeId.{NodeId}
@@ -76,37 +76,32 @@ module _ (rs : List Reading) (n : NodeId) (rule : Rule) where
   value_is : (f : Finding) → f ≡ found rs rule.pattern n → (told rs rule.pattern n).value ≡ value_of f
   value_is f e = sym ((founds rs rule.pattern).value n) ∙ ap value_of (sym e)
 
-  pub no_pattern : No ≡ found rs rule.pattern n → IsRuleNo rs n rule
-  no_pattern e = inl (value_is No e)
-
   pub pattern_lost : No ≡ found rs rule.pattern n → IsRuleLost rs n rule
   pattern_lost e = inl (value_is No e)
 
   pub conflict_lost : false ≡ no_conflict (told rs rule.pattern n).pairs → IsRuleLost rs n rule
   conflict_lost e = inr (sym e)
 
-  pub conflict : false ≡ no_conflict (told rs rule.pattern n).pairs → IsRuleNo rs n rule
-  conflict e = inr (inl (sym e))
-
   pub waits : (m : NodeId) → Unknown m ≡ found rs rule.pattern n → true ≡ no_conflict (told rs rule.pattern n).pairs → IsRuleUnknown rs n rule × Needs rs rule.pattern n m
   waits m e agreed = ((value_is (Unknown m) e, sym agreed), (founds rs rule.pattern).needs n m (sym e))
 
-  pub matching : Yes ≡ found rs rule.pattern n → true ≡ no_conflict (told rs rule.pattern n).pairs → HasResultTold rule.body rs (bindings_told rs n rule) → IsRuleYes rs n rule
-  matching e agreed result = record { pattern = value_is Yes e; agreed = sym agreed; result = result }
+module _ (wide : Bool) (rs : List Reading) (n : NodeId) (rule : Rule) where
+  pub matching : Yes ≡ found rs rule.pattern n → true ≡ no_conflict (told rs rule.pattern n).pairs → HasResultTold wide rule.body rs (bindings_told rs n rule) → IsRuleYes wide rs n rule
+  matching e agreed result = record { pattern = value_is rs n rule Yes e; agreed = sym agreed; result = result }
 
-  pub without_result : Yes ≡ found rs rule.pattern n → ¬ HasResultTold rule.body rs (bindings_told rs n rule) → IsRuleNo rs n rule
-  without_result e none = inr (inr (value_is Yes e, none))
+  pub without_result : Yes ≡ found rs rule.pattern n → ¬ HasResultTold wide rule.body rs (bindings_told rs n rule) → IsRuleNo wide rs n rule
+  without_result e none = inr (inr (value_is rs n rule Yes e, none))
 
   -- the three values exclude each other
-  pub no_yes : IsRuleNo rs n rule → IsRuleYes rs n rule → ⊥
+  pub no_yes : IsRuleNo wide rs n rule → IsRuleYes wide rs n rule → ⊥
   no_yes (inl fails) holds = let e : value.No ≡ value.Yes = sym fails ∙ holds.pattern in cc
   no_yes (inr (inl differ)) holds = let e : false ≡ true = sym differ ∙ holds.agreed in cc
   no_yes (inr (inr without)) holds = without.1 holds.result
 
-  pub unknown_yes : IsRuleUnknown rs n rule → IsRuleYes rs n rule → ⊥
+  pub unknown_yes : IsRuleUnknown rs n rule → IsRuleYes wide rs n rule → ⊥
   unknown_yes unknown holds = let e : value.Unknown ≡ value.Yes = sym unknown.0 ∙ holds.pattern in cc
 
-  pub unknown_no : IsRuleUnknown rs n rule → IsRuleNo rs n rule → ⊥
+  pub unknown_no : IsRuleUnknown rs n rule → IsRuleNo wide rs n rule → ⊥
   unknown_no unknown (inl fails) = let e : value.Unknown ≡ value.No = sym unknown.0 ∙ fails in cc
   unknown_no unknown (inr (inl differ)) = let e : false ≡ true = sym differ ∙ unknown.1 in cc
   unknown_no unknown (inr (inr without)) = let e : value.Unknown ≡ value.Yes = sym unknown.0 ∙ without.0 in cc

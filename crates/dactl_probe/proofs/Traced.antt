@@ -15,7 +15,7 @@ use Rattle.std.proofs.lemmas.Option.{slice_get_within, get_or_from_slice_get, sl
 use Rattle.std.specs.Bool.{Decides as IsDecided}
 use Rattle.dactl_model.specs.declared.graph.NodeId.{NodeId}
 use Rattle.dactl_model.specs.declared.graph.Label.{Label}
-use Rattle.dactl_model.specs.declared.graph.Label.TheVariants.{Symbol, Integer}
+use Rattle.dactl_model.specs.declared.graph.Label.TheVariants.{Symbol, Integer, Character}
 use Rattle.dactl_model.specs.declared.graph.Event.TheVariants as event
 use Rattle.dactl_model.specs.declared.reading.Reading.{Reading}
 use Rattle.dactl_model.specs.declared.program.Rule.{Rule}
@@ -192,6 +192,7 @@ no_symbol_tests p f path valid past =
 
 pub label_counted : (d : Decisions) → AreDecisions d → (l : Label) → IsNumberOf (label_tests d.program l) (most d l)
 label_counted d are (Integer i) = root_alone (label_tests d.program (Integer i)) (λ path. refl)
+label_counted d are (Character c) = root_alone (label_tests d.program (Character c)) (λ path. refl)
 label_counted d are (Symbol f) = at (slice_get d.paths f) refl
   where
     at : (o : Option ℕ) → slice_get d.paths f ≡ o → IsNumberOf (symbol_tests d.program.rules f) (unwrap_or o 1)
@@ -206,6 +207,7 @@ label_counted d are (Symbol f) = at (slice_get d.paths f) refl
 
 pub most_within : (d : Decisions) → AreDecisions d → (l : Label) → most d l ≤ d.widest
 most_within d are (Integer i) = are.greatest.some
+most_within d are (Character c) = are.greatest.some
 most_within d are (Symbol f) = at (slice_get d.paths f) refl
   where
     at : (o : Option ℕ) → slice_get d.paths f ≡ o → unwrap_or o 1 ≤ d.widest
@@ -347,6 +349,7 @@ module _ (d : Decisions) (n : NodeId) (footprint : Observed) (v : Verdict) (lost
           root_tested : (l : Label) → label_tests d.program l [] ≡ true
           root_tested (Symbol f) = refl
           root_tested (Integer i) = refl
+          root_tested (Character c) = refl
 
       further : IsNeed d.program footprint.readings n x.node → IsTraced d.program footprint.readings n → IsTraced d.program (footprint.readings ++ x ∷ []) n
       further need t =

@@ -6,7 +6,7 @@ use Rattle.dactl_model.specs.declared.reading.Reading.{Reading}
 use Rattle.dactl_model.specs.declared.program.Pat.{Pat}
 use Rattle.dactl_model.specs.declared.program.Pat.TheOpen.{Pat-F}
 use Rattle.dactl_model.specs.declared.program.Pat.TheFolds.{fold-Pat}
-use Rattle.dactl_model.specs.Patterns.{has_symbol, is_integer, has_integer}
+use Rattle.dactl_model.specs.Patterns.{has_symbol, is_integer, has_integer, is_character, has_character}
 use Rattle.dactl_model.specs.Readings.{reading_of, targets_of}
 use Rattle.dactl_probe.specs.declared.finding.Finding.{Finding}
 use Rattle.dactl_probe.specs.declared.finding.Finding.TheVariants.{No, Unknown, Yes}
@@ -61,7 +61,9 @@ found_symbol (Some r) n f tests = found_symbol_at (has_symbol r.label f && (leng
 abbrev pub found_level : List Reading → Pat-F (NodeId → Finding) → NodeId → Finding
 found_level rs Pat-F.Any n = Yes
 found_level rs Pat-F.Int n = found_label (reading_of rs n) n is_integer
+found_level rs Pat-F.Char n = found_label (reading_of rs n) n is_character
 found_level rs (Pat-F.Literal i) n = found_label (reading_of rs n) n (λ l. has_integer l i)
+found_level rs (Pat-F.Letter c) n = found_label (reading_of rs n) n (λ l. has_character l c)
 found_level rs (Pat-F.Sym f args) n = found_symbol (reading_of rs n) n f args
 found_level rs (Pat-F.Bind v q) n = q n
 found_level rs (Pat-F.Union q s) n = greater (q n) (s n)

@@ -2,7 +2,7 @@
 use Rattle.std.specs.Prelude.{◌≡◌, ◌≢◌, ℕ, ◌<◌, ◌≤◌, ◌⊎◌, ◌↔◌, List, [], length, slice_get, Some, None, AllPairs, Contains, unwrap_or}
 use Rattle.dactl_model.specs.declared.graph.NodeId.{NodeId}
 use Rattle.dactl_model.specs.declared.graph.Label.{Label}
-use Rattle.dactl_model.specs.declared.graph.Label.TheVariants.{Symbol, Integer}
+use Rattle.dactl_model.specs.declared.graph.Label.TheVariants.{Symbol, Integer, Character}
 use Rattle.dactl_model.specs.declared.graph.Event.{Event}
 use Rattle.dactl_model.specs.declared.reading.Reading.{Reading}
 use Rattle.dactl_model.specs.declared.program.Program.{Program}
@@ -25,6 +25,7 @@ pub record Probing : Type 0 where
 abbrev pub most : Decisions → Label → ℕ
 most d (Symbol f) = unwrap_or (slice_get d.paths f) 1
 most d (Integer i) = 1
+most d (Character c) = 1
 
 -- the readings decide an event at n
 abbrev pub Decides : Program → List Reading → NodeId → Type 0

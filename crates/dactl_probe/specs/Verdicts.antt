@@ -2,7 +2,7 @@
 use Rattle.std.specs.Prelude.{◌≡◌, ℕ, ◌<◌, ◌⊎◌, Bool, true, List, length, slice_get, Option, Some, None, IsSomeAnd}
 use Rattle.dactl_model.specs.declared.graph.NodeId.{NodeId}
 use Rattle.dactl_model.specs.declared.graph.Label.{Label}
-use Rattle.dactl_model.specs.declared.graph.Label.TheVariants.{Symbol, Integer}
+use Rattle.dactl_model.specs.declared.graph.Label.TheVariants.{Symbol, Integer, Character}
 use Rattle.dactl_model.specs.declared.graph.Event.{Event}
 use Rattle.dactl_model.specs.declared.reading.Reading.{Reading}
 use Rattle.dactl_model.specs.declared.program.Rule.{Rule}
@@ -20,43 +20,43 @@ use Rattle.dactl_probe.specs.declared.verdict.Verdict.TheVariants.{Need, Fire, N
 use Rattle.dactl_probe.specs.Leading.{Leads, Needs}
 use Rattle.dactl_probe.specs.Lost.{IsRuleLost}
 
--- what was found of a rule at n
-abbrev pub IsRuleFound : List Reading → NodeId → Rule → Found → Type 0
-IsRuleFound rs n rule Lost = IsRuleLost rs n rule
-IsRuleFound rs n rule No = IsRuleNo rs n rule
-IsRuleFound rs n rule (Unknown m) = IsRuleUnknown rs n rule × Needs rs rule.pattern n m
-IsRuleFound rs n rule Yes = IsRuleYes rs n rule
+-- what was found of a rule at n, in a program that is wide or not
+abbrev pub IsRuleFound : Bool → List Reading → NodeId → Rule → Found → Type 0
+IsRuleFound wide rs n rule Lost = IsRuleLost rs n rule
+IsRuleFound wide rs n rule No = IsRuleNo wide rs n rule
+IsRuleFound wide rs n rule (Unknown m) = IsRuleUnknown rs n rule × Needs rs rule.pattern n m
+IsRuleFound wide rs n rule Yes = IsRuleYes wide rs n rule
 
 -- the same of the rule of a number
-abbrev pub IsNumberFound : List Rule → List Reading → NodeId → ℕ → Found → Type 0
-IsNumberFound rules rs n r found = (rule : Rule) → slice_get rules r ≡ Some rule → IsRuleFound rs n rule found
+abbrev pub IsNumberFound : Program → List Reading → NodeId → ℕ → Found → Type 0
+IsNumberFound p rs n r found = (rule : Rule) → slice_get p.rules r ≡ Some rule → IsRuleFound p.wide rs n rule found
 
 -- rule r has the symbol at its root, and the fact holds of it
 abbrev pub HasRule : List Rule → ℕ → ℕ → (Rule → Type 0) → Type 0
 HasRule rules f r P = IsSomeAnd (slice_get rules r) (λ rule. (rule.symbol ≡ f) × P rule)
 
 -- the rules of the symbol with numbers below k are No
-abbrev pub AreNo : List Rule → ℕ → List Reading → NodeId → ℕ → Type 0
-AreNo rules f rs n k = (s : ℕ) (rule : Rule) → s < k → slice_get rules s ≡ Some rule → rule.symbol ≡ f → IsRuleNo rs n rule
+abbrev pub AreNo : Program → ℕ → List Reading → NodeId → ℕ → Type 0
+AreNo p f rs n k = (s : ℕ) (rule : Rule) → s < k → slice_get p.rules s ≡ Some rule → rule.symbol ≡ f → IsRuleNo p.wide rs n rule
 
 -- the first rule of the symbol that is not No, if there is one
-abbrev pub IsFirstOpen : List Rule → ℕ → List Reading → NodeId → Option Open → Type 0
-IsFirstOpen rules f rs n None = AreNo rules f rs n (length rules)
-IsFirstOpen rules f rs n (Some (Fires r)) = AreNo rules f rs n r × HasRule rules f r (λ rule. IsRuleYes rs n rule)
-IsFirstOpen rules f rs n (Some (Waits r m)) = AreNo rules f rs n r × HasRule rules f r (λ rule. IsRuleUnknown rs n rule × Needs rs rule.pattern n m)
+abbrev pub IsFirstOpen : Program → ℕ → List Reading → NodeId → Option Open → Type 0
+IsFirstOpen p f rs n None = AreNo p f rs n (length p.rules)
+IsFirstOpen p f rs n (Some (Fires r)) = AreNo p f rs n r × HasRule p.rules f r (λ rule. IsRuleYes p.wide rs n rule)
+IsFirstOpen p f rs n (Some (Waits r m)) = AreNo p f rs n r × HasRule p.rules f r (λ rule. IsRuleUnknown rs n rule × Needs rs rule.pattern n m)
 
 -- a rule of the symbol and of the group that is Yes, if there is one
-abbrev pub IsYesInGroup : List Rule → ℕ → ℕ → List Reading → NodeId → Option ℕ → Type 0
-IsYesInGroup rules f group rs n None = (s : ℕ) (rule : Rule) → slice_get rules s ≡ Some rule → rule.symbol ≡ f → rule.group ≡ group → IsRuleYes rs n rule → ⊥
-IsYesInGroup rules f group rs n (Some r) = HasRule rules f r (λ rule. (rule.group ≡ group) × IsRuleYes rs n rule)
+abbrev pub IsYesInGroup : Program → ℕ → ℕ → List Reading → NodeId → Option ℕ → Type 0
+IsYesInGroup p f group rs n None = (s : ℕ) (rule : Rule) → slice_get p.rules s ≡ Some rule → rule.symbol ≡ f → rule.group ≡ group → IsRuleYes p.wide rs n rule → ⊥
+IsYesInGroup p f group rs n (Some r) = HasRule p.rules f r (λ rule. (rule.group ≡ group) × IsRuleYes p.wide rs n rule)
 
 -- rule r is the first rule of the symbol that is not No, and it is not known yet
-abbrev pub IsFirstWaiting : List Rule → ℕ → List Reading → NodeId → ℕ → Type 0
-IsFirstWaiting rules f rs n r = AreNo rules f rs n r × HasRule rules f r (λ rule. IsRuleUnknown rs n rule)
+abbrev pub IsFirstWaiting : Program → ℕ → List Reading → NodeId → ℕ → Type 0
+IsFirstWaiting p f rs n r = AreNo p f rs n r × HasRule p.rules f r (λ rule. IsRuleUnknown rs n rule)
 
 -- a rule of the symbol and of the group of rule r that is Yes, if there is one
-abbrev pub IsYesBeside : List Rule → ℕ → ℕ → List Reading → NodeId → Option ℕ → Type 0
-IsYesBeside rules f r rs n found = (rule : Rule) → slice_get rules r ≡ Some rule → IsYesInGroup rules f rule.group rs n found
+abbrev pub IsYesBeside : Program → ℕ → ℕ → List Reading → NodeId → Option ℕ → Type 0
+IsYesBeside p f r rs n found = (rule : Rule) → slice_get p.rules r ≡ Some rule → IsYesInGroup p f rule.group rs n found
 
 -- the node was read, and has the symbol
 abbrev pub HasSymbolRead : List Reading → NodeId → ℕ → Type 0
@@ -66,6 +66,7 @@ HasSymbolRead rs n f = IsSomeAnd (reading_of rs n) (λ r. r.label ≡ Symbol f)
 abbrev pub label_tests : Program → Label → List ℕ → Bool
 label_tests p (Symbol f) path = symbol_tests p.rules f path
 label_tests p (Integer i) path = is_root path
+label_tests p (Character c) path = is_root path
 
 -- the root was read, and a rule for its label tests m at the end of a path
 pub record IsPlaced (p : Program) (rs : List Reading) (n m : NodeId) : Type 0 where

@@ -23,7 +23,8 @@ pub fn first_bound(
     ensures { result ≡ first_node (told readings.now pattern.now node).pairs variable }
 {
     match pattern {
-        Pat::Any | Pat::Int | Pat::Literal(_) | Pat::Union { .. } => None,
+        Pat::Any | Pat::Int | Pat::Char | Pat::Literal(_) | Pat::Letter(_) => None,
+        Pat::Union { .. } => None,
         Pat::Sym { symbol, args } => match reading_of(readings, node) {
             Some(reading) => {
                 if has_shape(reading, *symbol, args.len()) {
@@ -82,7 +83,8 @@ fn agrees(readings: &[Reading], pattern: &Pat, node: NodeId, whole: &Pat, root: 
     ensures { result ≡ list_all (is_first (told readings.now whole.now root).pairs) (told readings.now pattern.now node).pairs }
 {
     match pattern {
-        Pat::Any | Pat::Int | Pat::Literal(_) | Pat::Union { .. } => true,
+        Pat::Any | Pat::Int | Pat::Char | Pat::Literal(_) | Pat::Letter(_) => true,
+        Pat::Union { .. } => true,
         Pat::Sym { symbol, args } => match reading_of(readings, node) {
             Some(reading) => {
                 if has_shape(reading, *symbol, args.len()) {
@@ -138,7 +140,8 @@ pub fn push_bound(footprint: &mut Footprint, pattern: &Pat, node: NodeId)
     ensures { footprint.new ≡ with_nodes footprint.old (told footprint.old.readings pattern.now node).pairs }
 {
     match pattern {
-        Pat::Any | Pat::Int | Pat::Literal(_) | Pat::Union { .. } => {}
+        Pat::Any | Pat::Int | Pat::Char | Pat::Literal(_) | Pat::Letter(_) => {}
+        Pat::Union { .. } => {}
         Pat::Sym { symbol, args } => {
             let Some(reading) = reading_of(footprint.readings(), node) else {
                 return;

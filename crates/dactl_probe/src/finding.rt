@@ -2,7 +2,7 @@
 ghost use Rattle.std.specs.Prelude.{◌≡◌, map};
 ghost use Rattle.dactl_probe.specs.Findings.{lesser, greater, denied, finding_of, found, found_all};
 
-use crate::reading::{has_integer, has_shape, is_integer, reading_of, targets_of};
+use crate::reading::{has_shape, reading_of, targets_of};
 use dactl_model::graph::NodeId;
 use dactl_model::program::Pat;
 use dactl_model::reading::Reading;
@@ -60,11 +60,19 @@ pub fn look(readings: &[Reading], pattern: &Pat, node: NodeId) -> Finding
     match pattern {
         Pat::Any => Finding::Yes,
         Pat::Int => match reading_of(readings, node) {
-            Some(reading) => finding_of(is_integer(reading.label)),
+            Some(reading) => finding_of(reading.label.is_integer()),
             None => Finding::Unknown(node),
         },
-        Pat::Literal(i) => match reading_of(readings, node) {
-            Some(reading) => finding_of(has_integer(reading.label, *i)),
+        Pat::Char => match reading_of(readings, node) {
+            Some(reading) => finding_of(reading.label.is_character()),
+            None => Finding::Unknown(node),
+        },
+        Pat::Literal(integer) => match reading_of(readings, node) {
+            Some(reading) => finding_of(reading.label.has_integer(*integer)),
+            None => Finding::Unknown(node),
+        },
+        Pat::Letter(character) => match reading_of(readings, node) {
+            Some(reading) => finding_of(reading.label.has_character(*character)),
             None => Finding::Unknown(node),
         },
         Pat::Sym { symbol, args } => match reading_of(readings, node) {

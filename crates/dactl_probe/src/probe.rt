@@ -9,7 +9,7 @@ ghost use Rattle.dactl_probe.specs.Probing.{Probing, IsProbing};
 use crate::binding::push_bound;
 use crate::lost::Lost;
 use crate::rule::bound;
-use crate::verdict::{Verdict, judge, rule_of};
+use crate::verdict::{Verdict, judge};
 use dactl_decide::Deciders;
 use dactl_model::footprint::{Attempt, Footprint};
 use dactl_model::graph::{Event, NodeId};
@@ -148,12 +148,7 @@ impl<'a> Probe<'a> {
         match verdict {
             Verdict::Fire(rule) => {
                 let orderly = deciders.is_orderly(rule);
-                push_bindings(
-                    &mut footprint,
-                    rule_of(deciders.program(), rule),
-                    orderly,
-                    node,
-                );
+                push_bindings(&mut footprint, deciders.program().rule(rule), orderly, node);
                 let event = Event::Fire { node, rule };
                 Attempt { event, footprint }
             }

@@ -1,3 +1,4 @@
+mod labels;
 mod wide;
 
 ghost use Rattle.std.specs.Prelude.{◌≡◌};
@@ -74,6 +75,7 @@ fn rule(
         fresh: Items::new(alloc),
         moves: Items::new(alloc),
         wakes: Items::new(alloc),
+        suspend: 0,
     };
     Ok(Rule {
         symbol,
@@ -111,11 +113,12 @@ fn start(alloc: Global) -> Result<Start, Memory> {
     Ok(Start { fresh, root: 0 })
 }
 
-fn program(alloc: Global, first: Rule, second: Rule) -> Result<Program, Memory> {
+fn program(alloc: Global, wide: bool, first: Rule, second: Rule) -> Result<Program, Memory> {
     Ok(Program {
         symbols: symbols(alloc)?,
         rules: rules(alloc, first, second)?,
         start: start(alloc)?,
+        wide,
     })
 }
 
@@ -123,7 +126,7 @@ fn program(alloc: Global, first: Rule, second: Rule) -> Result<Program, Memory> 
 fn any_before_nil(alloc: Global) -> Result<Program, Memory> {
     let any = rule(alloc, F, 5, 0, Pat::Any)?;
     let nil = rule(alloc, F, 6, 0, leaf(alloc, NIL))?;
-    program(alloc, any, nil)
+    program(alloc, false, any, nil)
 }
 
 /// `F[x:(ANY - Nil)]`, and in the same group `F[Nil]`.
@@ -133,16 +136,16 @@ fn other_than_nil_beside_nil(alloc: Global) -> Result<Program, Memory> {
     let other = bound(alloc, Pat::Less { left, right })?;
     let other = rule(alloc, F, 5, 1, other)?;
     let nil = rule(alloc, F, 5, 0, leaf(alloc, NIL))?;
-    program(alloc, other, nil)
+    program(alloc, false, other, nil)
 }
 
 /// `Get[Box[Cell]]`, and in a later group `Put[c:Cell]`.
-fn get_and_put(alloc: Global) -> Result<Program, Memory> {
+fn get_and_put(alloc: Global, wide: bool) -> Result<Program, Memory> {
     let full = over(alloc, BOX, leaf(alloc, CELL))?;
     let get = rule(alloc, GET, 5, 0, full)?;
     let cell = bound(alloc, leaf(alloc, CELL))?;
     let put = rule(alloc, PUT, 6, 1, cell)?;
-    program(alloc, get, put)
+    program(alloc, wide, get, put)
 }
 
 fn id(number: u32) -> NodeId
@@ -151,22 +154,27 @@ fn id(number: u32) -> NodeId
     NodeId { number }
 }
 
-/// A symbol, and the number of the one target if there is one.
-type Content = (u32, Option<u32>);
-
-fn reading(node: NodeId, content: Content) -> Reading
-    ensures { result.node ≡ node }
-{
-    let (symbol, target) = content;
+/// What is read of a node with the label and the targets of these numbers, the first 16 of them.
+fn content(label: Label, targets: &[u32]) -> Reading {
+    let count = targets.len().min(16);
+    let mut nodes = [id(0); 16];
+    for place in 0..count {
+        nodes[place] = id(targets[place]);
+    }
     Reading {
-        node,
-        label: Label::Symbol(symbol),
+        node: id(0),
+        label,
         targets: Targets {
-            count: if target.is_some() { 1 } else { 0 },
-            nodes: [id(target.unwrap_or(0)); 16],
+            count: count as u8,
+            nodes,
         },
         version: 0,
     }
+}
+
+/// What is read of a node with the symbol.
+fn term(symbol: u32, targets: &[u32]) -> Reading {
+    content(Label::Symbol(symbol), targets)
 }
 
 /// The attempt of a probe of the node, in a graph where node `k` has the content at place `k`:
@@ -175,7 +183,7 @@ fn reading(node: NodeId, content: Content) -> Reading
 fn attempt_at(
     alloc: Global,
     program: &Program,
-    graph: &[Content],
+    graph: &[Reading],
     node: u32,
 ) -> Result<Option<Attempt>, Memory> {
     if !is_valid(program) {
@@ -189,7 +197,7 @@ fn attempt_at(
             Next::Done => return Ok(Some(probe.attempt())),
             Next::Need(node) => match graph.get(node.number as usize) {
                 Some(&content) => {
-                    probe.step(reading(node, content));
+                    probe.step(Reading { node, ..content });
                 }
                 None => return Ok(None),
             },
@@ -219,7 +227,7 @@ fn is_attempt(attempt: &Attempt, event: Event, read: &[u32], bindings: &[u32]) -
 #[test]
 fn only_nodes_that_decide_are_read(rt: HostRuntime) -> Result<(), Fail> {
     let alloc = rt.alloc();
-    let graph = [(F, Some(1)), (NIL, None)];
+    let graph = [term(F, &[1]), term(NIL, &[])];
     let found = attempt_at(alloc, &any_before_nil(alloc)?, &graph, 0)?.ok_or("no attempt")?;
     let fire = |rule| Event::Fire { node: id(0), rule };
     assert!(rt; is_attempt(&found, fire(5), &[0], &[]));
@@ -233,13 +241,13 @@ fn only_nodes_that_decide_are_read(rt: HostRuntime) -> Result<(), Fail> {
 #[test]
 fn nodes_are_read_from_the_root_downwards(rt: HostRuntime) -> Result<(), Fail> {
     let alloc = rt.alloc();
-    let program = get_and_put(alloc)?;
+    let program = get_and_put(alloc, false)?;
     let mut graph = [
-        (NIL, None),
-        (CELL, None),
-        (GET, Some(3)),
-        (BOX, Some(1)),
-        (PUT, Some(1)),
+        term(NIL, &[]),
+        term(CELL, &[]),
+        term(GET, &[3]),
+        term(BOX, &[1]),
+        term(PUT, &[1]),
     ];
     let get = attempt_at(alloc, &program, &graph, 2)?.ok_or("no attempt")?;
     let fire = Event::Fire {
@@ -253,7 +261,7 @@ fn nodes_are_read_from_the_root_downwards(rt: HostRuntime) -> Result<(), Fail> {
         rule: 6,
     };
     assert!(rt; is_attempt(&put, fire, &[4, 1], &[1]));
-    graph[1] = (NIL, None);
+    graph[1] = term(NIL, &[]);
     let get = attempt_at(alloc, &program, &graph, 2)?.ok_or("no attempt")?;
     assert!(rt; is_attempt(&get, Event::Note { node: id(2) }, &[2, 3, 1], &[]));
     Ok(())

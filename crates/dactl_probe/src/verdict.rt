@@ -1,6 +1,4 @@
 //! What readings decide.
-ghost use Rattle.std.specs.Prelude.{◌≡◌, ◌<◌, Some, length, slice_get};
-ghost use Rattle.dactl_model.specs.Programs.{IsValid, IsDelta};
 ghost use Rattle.dactl_decide.specs.Decisions.{AreDecisions};
 ghost use Rattle.dactl_probe.specs.Lost.{AreLost};
 ghost use Rattle.dactl_probe.specs.Verdicts.{IsFirstOpen, IsFirstWaiting, IsYesBeside, HasSymbolRead, IsVerdict};
@@ -10,7 +8,6 @@ use crate::reading::reading_of;
 use crate::rule::{Found, find};
 use dactl_decide::Deciders;
 use dactl_model::graph::{Label, NodeId};
-use dactl_model::program::{Program, Rule};
 use dactl_model::reading::Reading;
 
 /// What is to be done at a node as far as readings tell: another node is to be read first, the rule
@@ -29,16 +26,6 @@ enum Open {
     Waits { rule: u32, need: NodeId },
 }
 
-/// The rule of a number.
-pub fn rule_of(program: &Program, number: u32) -> &Rule
-    requires valid { IsValid program.now }
-    requires within { number < length program.now.rules }
-    ensures is { slice_get program.now.rules number ≡ Some result.now }
-    ensures operands { IsDelta result.now.body → result.now.variables ≡ 2 }
-{
-    &program.rules.as_slice()[number as usize]
-}
-
 /// The first rule of the symbol that isn't known to fail. Adds the rules before it to the lost ones.
 fn first_open(
     deciders: &Deciders,
@@ -49,7 +36,7 @@ fn first_open(
 ) -> Option<Open>
     requires symbol { HasSymbolRead readings.now node symbol }
     requires lost { AreLost deciders.now.program.rules readings.now node lost.old }
-    ensures open { IsFirstOpen deciders.now.program.rules symbol readings.now node result }
+    ensures open { IsFirstOpen deciders.now.program symbol readings.now node result }
     ensures lost { AreLost deciders.now.program.rules readings.now node lost.new }
 {
     let _program = deciders.program();
@@ -81,20 +68,20 @@ fn yes_behind(
     readings: &[Reading],
     node: NodeId,
 ) -> Option<u32>
-    requires first { IsFirstWaiting deciders.now.program.rules symbol readings.now node first }
+    requires first { IsFirstWaiting deciders.now.program symbol readings.now node first }
     requires lost { AreLost deciders.now.program.rules readings.now node lost.old }
-    ensures yes { IsYesBeside deciders.now.program.rules symbol first readings.now node result }
+    ensures yes { IsYesBeside deciders.now.program symbol first readings.now node result }
     ensures lost { AreLost deciders.now.program.rules readings.now node lost.new }
 {
     let program = deciders.program();
     let numbers = deciders.rules(symbol);
-    let group = rule_of(program, first).group;
+    let group = program.rule(first).group;
     for place in lost.among(numbers)..numbers.len() {
         let number = numbers[place];
         if number <= first {
             continue;
         }
-        if rule_of(program, number).group > group {
+        if program.rule(number).group > group {
             return None;
         }
         match find(deciders, number, lost, readings, node) {
@@ -147,7 +134,7 @@ pub fn judge(deciders: &Deciders, lost: &mut Lost, readings: &[Reading], node: N
         None => Verdict::Need(node),
         Some(reading) => match reading.label {
             Label::Symbol(symbol) => at_symbol(deciders, symbol, lost, readings, node),
-            Label::Integer(_) => Verdict::Note,
+            Label::Integer(_) | Label::Character(_) => Verdict::Note,
         },
     }
 }

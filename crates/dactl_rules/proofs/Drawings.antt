@@ -5,16 +5,16 @@ use Rattle.std.specs.Borrow.{Bor}
 use Rattle.std.proofs.lemmas.List.{append-nil, take_more, map-append, length-map}
 use Rattle.std.proofs.lemmas.Grind.{flat_map-append}
 use Rattle.std.proofs.lemmas.List.Folds.{flat_map-map}
-use Rattle.dactl_syntax.specs.declared.tree.Name.{Name}
-use Rattle.dactl_syntax.specs.declared.tree.Marks.{Marks}
-use Rattle.dactl_syntax.specs.declared.tree.NodeTree.{NodeTree}
-use Rattle.dactl_syntax.specs.declared.tree.NodeTree.TheVariants as n
-use Rattle.dactl_syntax.specs.declared.tree.NodeTree.TheVariants.{rolls-Sym}
-use Rattle.dactl_syntax.specs.declared.tree.NodeTree.TheOpen.{NodeTree-F}
-use Rattle.dactl_syntax.specs.declared.tree.NodeTree.TheFolds.{fold-roll-NodeTree}
-use Rattle.dactl_syntax.specs.declared.tree.ArgTree.{ArgTree}
-use Rattle.dactl_syntax.specs.Contractum as contractum
-use Rattle.dactl_syntax.specs.Contractum.{Drawn, DrawnArc, MentionTree, drawn_from, drawn_node, node_drawn, arg_drawn, term_drawn, node_mentions, arg_mentions, term_mentions}
+use Rattle.dactl_meaning.specs.declared.tree.Name.{Name}
+use Rattle.dactl_meaning.specs.declared.tree.Marks.{Marks}
+use Rattle.dactl_meaning.specs.declared.tree.NodeTree.{NodeTree}
+use Rattle.dactl_meaning.specs.declared.tree.NodeTree.TheVariants as n
+use Rattle.dactl_meaning.specs.declared.tree.NodeTree.TheVariants.{rolls-Sym}
+use Rattle.dactl_meaning.specs.declared.tree.NodeTree.TheOpen.{NodeTree-F}
+use Rattle.dactl_meaning.specs.declared.tree.NodeTree.TheFolds.{fold-roll-NodeTree}
+use Rattle.dactl_meaning.specs.declared.tree.ArgTree.{ArgTree}
+use Rattle.dactl_meaning.specs.Contractum as contractum
+use Rattle.dactl_meaning.specs.Contractum.{Drawn, DrawnArc, MentionTree, drawn_from, drawn_node, node_drawn, arg_drawn, term_drawn, node_mentions, arg_mentions, term_mentions}
 use Rattle.dactl_rules.specs.declared.drawing.Target.TheVariants as target
 use Rattle.dactl_rules.specs.declared.drawing.Sketch.{Sketch}
 use Rattle.dactl_rules.specs.declared.drawing.SketchArc.{SketchArc}

@@ -4,9 +4,9 @@ use Rattle.std.specs.List.{flat_map}
 use Rattle.std.specs.Borrow.{Bor}
 use Rattle.std.proofs.lemmas.List.{append-nil, take_more, map-append, length-map}
 use Rattle.std.proofs.lemmas.Grind.{flat_map-append}
-use Rattle.dactl_syntax.specs.declared.tree.TermTree.{TermTree}
-use Rattle.dactl_syntax.specs.Contractum as contractum
-use Rattle.dactl_syntax.specs.Contractum.{Drawn, MentionTree, term_draws, terms_draw, made_by, mentions_in, mentions_of}
+use Rattle.dactl_meaning.specs.declared.tree.TermTree.{TermTree}
+use Rattle.dactl_meaning.specs.Contractum as contractum
+use Rattle.dactl_meaning.specs.Contractum.{Drawn, MentionTree, term_draws, terms_draw, made_by, mentions_in, mentions_of}
 use Rattle.dactl_rules.specs.declared.drawing.Target.{Target}
 use Rattle.dactl_rules.specs.declared.drawing.Drawing.{Drawing}
 use Rattle.dactl_rules.specs.Drawing.{sketch_of, target_of, next_number, Draws}

@@ -6,19 +6,19 @@ use Rattle.dactl_base.specs.declared.refusal.Kind.{Kind}
 use Rattle.dactl_base.specs.declared.refusal.Kind.TheVariants as kinds
 use Rattle.dactl_base.specs.declared.refusal.Refusal.{Refusal}
 use Rattle.dactl_model.specs.declared.program.Class.TheVariants as classes
-use Rattle.dactl_syntax.specs.declared.tree.PatternTree.{PatternTree}
-use Rattle.dactl_syntax.specs.declared.tree.TermTree.{TermTree}
-use Rattle.dactl_syntax.specs.declared.tree.RuleTree.{RuleTree}
-use Rattle.dactl_syntax.specs.declared.tree.Item.{Item}
-use Rattle.dactl_syntax.specs.declared.tree.Item.TheVariants as item
-use Rattle.dactl_syntax.specs.declared.tree.Text.{Text}
-use Rattle.dactl_syntax.specs.Faults.{phase}
-use Rattle.dactl_syntax.specs.Declarations.{items, rules}
-use Rattle.dactl_syntax.specs.Sight.{Seen, sees, class_for}
-use Rattle.dactl_syntax.specs.Expansion.{variables_of, rule_expansion, pattern_expansion}
-use Rattle.dactl_syntax.specs.Contractum.{term_of_part}
-use Rattle.dactl_syntax.specs.RuleFaults.{each_at, at_if, is_class, is_too_wide, binders_in_choice, wide_in_pattern, named_twice_in_pattern, wide_in_contractum, unbound_mentions, named_twice_in_contractum, not_creatable, marks_on_bound, too_many_waits, unbound_lefts, redirected_twice, not_overwritable, root_not_rewritable, contractum_faults, pattern_faults, left_faults, rule_faults}
-use Rattle.dactl_syntax.specs.Meaning.{named_faults, faults_of_rules, all_initials, CycleFault, RuleFault}
+use Rattle.dactl_meaning.specs.declared.tree.PatternTree.{PatternTree}
+use Rattle.dactl_meaning.specs.declared.tree.TermTree.{TermTree}
+use Rattle.dactl_meaning.specs.declared.tree.RuleTree.{RuleTree}
+use Rattle.dactl_meaning.specs.declared.tree.Item.{Item}
+use Rattle.dactl_meaning.specs.declared.tree.Item.TheVariants as item
+use Rattle.dactl_meaning.specs.declared.tree.Text.{Text}
+use Rattle.dactl_meaning.specs.Faults.{phase}
+use Rattle.dactl_meaning.specs.Declarations.{items, rules}
+use Rattle.dactl_meaning.specs.Sight.{Seen, sees, class_for}
+use Rattle.dactl_meaning.specs.Expansion.{variables_of, rule_expansion, pattern_expansion}
+use Rattle.dactl_meaning.specs.Contractum.{term_of_part}
+use Rattle.dactl_meaning.specs.RuleFaults.{each_at, at_if, is_class, is_too_wide, binders_in_choice, wide_in_pattern, named_twice_in_pattern, wide_in_contractum, unbound_mentions, named_twice_in_contractum, not_creatable, marks_on_bound, suspended_again, too_many_waits, suspendable, unbound_lefts, redirected_twice, not_overwritable, root_not_rewritable, contractum_faults, pattern_faults, left_faults, rule_faults}
+use Rattle.dactl_meaning.specs.Meaning.{named_faults, faults_of_rules, all_initials, CycleFault, RuleFault}
 
 -- a fault of the rules
 abbrev IsLate : Refusal → Type 0
@@ -42,10 +42,11 @@ all_flat : {A : Type 0} (f : A → List Refusal) → ((a : A) → AreLate (f a))
 all_flat f each [] = none_late
 all_flat f each (x ∷ xs) = both {xs = f x} {ys = flat_map f xs} (each x) (all_flat f each xs)
 
-contractum_late : (look : List ℕ → Option Seen) (variables : List (List ℕ)) (terms : List TermTree) → AreLate (contractum_faults look variables terms)
-contractum_late look variables terms =
-    both (both (both (both (both (all_at kinds.TooWide (wide_in_contractum terms) refl) (all_at kinds.Unbound (unbound_mentions variables terms) refl)) (all_at kinds.NamedTwice (named_twice_in_contractum variables terms) refl)) (all_at kinds.NotCreatable (not_creatable look terms) refl))
-    (all_at kinds.MarkOnBound (marks_on_bound variables terms) refl))
+contractum_late : (look : List ℕ → Option Seen) (variables roots : List (List ℕ)) (terms : List TermTree) → AreLate (contractum_faults look variables roots terms)
+contractum_late look variables roots terms =
+    both (both (both (both (both (both (all_at kinds.TooWide (wide_in_contractum terms) refl) (all_at kinds.Unbound (unbound_mentions variables terms) refl)) (all_at kinds.NamedTwice (named_twice_in_contractum variables terms) refl)) (all_at kinds.NotCreatable (not_creatable look terms) refl))
+    (all_at kinds.MarkOnBound (marks_on_bound variables roots terms) refl))
+    (all_at kinds.MarkOnBound (suspended_again roots terms) refl))
     (all_at kinds.TooManyWaits (too_many_waits terms) refl)
 
 pattern_late : (t : Text) (m : ℕ) (named : Bool) (place : ℕ) (tree : PatternTree) → AreLate (pattern_faults t m named place tree)
@@ -61,7 +62,7 @@ left_late t m r =
 rule_late : (t : Text) (m : ℕ) (r : RuleTree) → AreLate (rule_faults t m r)
 rule_late t m r =
     both
-    (both (both (all_at kinds.RootNotRewritable (root_not_rewritable (λ f. is_class classes.Rewritable (class_for t m f)) (rule_expansion t m r.pattern) r) refl) (pattern_late t m false r.place.byte r.pattern)) (contractum_late (sees t m) (variables_of r.pattern) (map term_of_part r.parts)))
+    (both (both (all_at kinds.RootNotRewritable (root_not_rewritable (λ f. is_class classes.Rewritable (class_for t m f)) (rule_expansion t m r.pattern) r) refl) (pattern_late t m false r.place.byte r.pattern)) (contractum_late (sees t m) (variables_of r.pattern) (suspendable r) (map term_of_part r.parts)))
     (left_late t m r)
 
 item_late : (t : Text) (m : ℕ) (number : ℕ) (i : Item) → AreLate (named_faults t (record { owner = m; number = number; item = i }))
@@ -74,7 +75,7 @@ item_late t m number (item.Initial place terms) = none_late
 rules_late : (t : Text) → AreLate (faults_of_rules t)
 rules_late t =
     both (both (all_flat (named_faults t) (λ i. item_late t i.owner i.number i.item) (items t)) (all_flat (λ r. rule_faults t r.owner r.rule) (λ r. rule_late t r.owner r.rule) (rules t)))
-    (all_flat (λ i. contractum_faults (sees t i.owner) [] i.terms) (λ i. contractum_late (sees t i.owner) [] i.terms) (all_initials t))
+    (all_flat (λ i. contractum_faults (sees t i.owner) [] [] i.terms) (λ i. contractum_late (sees t i.owner) [] [] i.terms) (all_initials t))
 
 pub rule_phase : (t : Text) (r : Refusal) → RuleFault t r → phase r.kind ≡ 5
 rule_phase t r has = All-contains IsLate (faults_of_rules t) r (rules_late t).each has

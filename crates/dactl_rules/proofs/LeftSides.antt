@@ -1,18 +1,19 @@
 -- The faults of left sides, as the definitions list them.
-use Rattle.std.proofs.Common.{◌≡◌, ℕ, ◌+◌, ◌<◌, Bool, true, false, not, ◌&&◌, cond, List, [], ◌∷◌, ◌++◌, length, map, take, get_or, Option, Some, None, is_some, refl, sym, ap, ◌∙◌, append_assoc, if◌then◌else◌}
-use Rattle.std.specs.List.{filter, flat_map}
+use Rattle.std.proofs.Common.{◌≡◌, ℕ, zero, suc, ◌+◌, ◌<◌, Bool, true, false, not, ◌&&◌, cond, List, [], ◌∷◌, ◌++◌, length, map, take, get_or, Option, Some, None, is_some, refl, sym, ap, ◌∙◌, append_assoc, arith, if◌then◌else◌}
+use Rattle.std.specs.List.{filter, flat_map, list_any}
 use Rattle.std.specs.Borrow.{Bor}
 use Rattle.std.proofs.lemmas.List.{append-nil, take_more, map-append}
 use Rattle.std.proofs.lemmas.Grind.{flat_map-append}
 use Rattle.dactl_base.specs.declared.refusal.Kind.TheVariants as kinds
 use Rattle.dactl_model.specs.declared.program.Pat.{Pat}
-use Rattle.dactl_syntax.specs.declared.tree.Name.{Name}
-use Rattle.dactl_syntax.specs.Expansion.{is_among, number_in, is_overwritable}
-use Rattle.dactl_syntax.specs.RuleFaults.{each_at, place_of}
+use Rattle.dactl_meaning.specs.declared.tree.Name.{Name}
+use Rattle.dactl_meaning.specs.Expansion.{is_among, number_in, is_overwritable}
+use Rattle.dactl_meaning.specs.RuleFaults.{each_at, place_of}
 use Rattle.dactl_rules.specs.Numbers.{variable_number}
 use Rattle.dactl_rules.specs.Lefts.{words, left_unbound, is_fixed, left_fixed}
-use Rattle.dactl_rules.proofs.ToldFaults.{each_flat, map_kept, place_by, kept-append, variable_told}
+use Rattle.dactl_rules.proofs.ToldFaults.{each_flat, map_kept, place_by, variable_told}
 use Rattle.dactl_rules.proofs.Meanings.{variable_some, variable_none}
+use Rattle.dactl_rules.proofs.ValidTests.{or_left, or_right}
 
 -- ---- the names that pass
 
@@ -35,18 +36,6 @@ fixed_some writable variables roots pattern w n free over e f g =
     ap (λ (b : Bool). b && not over) (sym f) ∙ ap (λ (b : Bool). not (is_among roots w) && not b) (g ∙ ap (λ (k : ℕ). is_overwritable writable k pattern) (sym facts.1))
     ∙ ap (λ (b : Bool). b && (not (is_among roots w) && not (is_overwritable writable (number_in variables w) pattern))) (sym facts.0)
 
-one_kept : (b : Bool) (n : Name) → cond b (n ∷ []) [] ≡ (if b then n ∷ [] else [])
-one_kept true n = refl
-one_kept false n = refl
-
--- the names that pass, one name more
-pub kept_more : (p : Name → Bool) (xs : List (Bor Name)) (i : ℕ) (x : Bor Name) → i < length xs → x ≡ get_or xs i x
-    → filter p (words (take (i + 1) xs)) ≡ filter p (words (take i xs)) ++ (if p x.now then x.now ∷ [] else [])
-kept_more p xs i x lt is =
-    ap (λ (z : List (Bor Name)). filter p (words z)) (take_more xs i x lt ∙ ap (λ (z : Bor Name). take i xs ++ z ∷ []) (sym is))
-    ∙ ap (filter p) (map-append (λ (z : Bor Name). z.now) (take i xs) (x ∷ [])) ∙ kept-append p (words (take i xs)) (x.now ∷ [])
-    ∙ ap (λ (z : List Name). filter p (words (take i xs)) ++ z) (one_kept (p x.now) x.now)
-
 pub flat_step : {A B C : Type 0} (f : B → List C) (g : A → B) (xs : List A) (i : ℕ) (x : A) (start now next : List C) → i < length xs → x ≡ get_or xs i x
     → now ≡ start ++ flat_map f (map g (take i xs)) → next ≡ now ++ f (g x) → next ≡ start ++ flat_map f (map g (take (i + 1) xs))
 flat_step f g xs i x start now next lt is so_far step =
@@ -55,6 +44,13 @@ flat_step f g xs i x start now next lt is so_far step =
     ∙ ap (λ (z : List _). start ++ (flat_map f (map g (take i xs)) ++ z)) (sym (append-nil (f (g x))))
     ∙ ap (λ (z : List _). start ++ z) (sym (flat_map-append f (map g (take i xs)) (g x ∷ [])))
     ∙ ap (λ (z : List _). start ++ flat_map f z) (sym more)
+
+-- ---- one that passes
+
+pub any_there : {A B : Type 0} (p : B → Bool) (f : A → B) (xs : List A) (i : ℕ) (x : A) → i < length xs → x ≡ get_or xs i x → p (f x) ≡ true → list_any p (map f xs) ≡ true
+any_there p f [] i x lt is t = absurd (omega arith)
+any_there p f (y ∷ xs) zero x lt is t = or_left (p (f y)) _ (ap (λ (z : _). p (f z)) (sym is) ∙ t)
+any_there p f (y ∷ xs) (suc i) x lt is t = or_right (p (f y)) _ (any_there p f xs i x (omega arith) is t)
 
 -- ---- what is told of them
 

@@ -3,6 +3,7 @@ pub mod Tables
 pub mod DrawnTerms
 pub mod Twice
 pub mod ToldFaults
+pub mod Suspensions
 pub mod Least
 pub mod Meanings
 pub mod RootNames
@@ -17,6 +18,8 @@ pub mod ValidNames
 pub mod ValidTerms
 pub mod ValidContracta
 pub mod ValidMoves
+pub mod ValidSuspensions
+pub mod ValidNarrow
 pub mod ValidUses
 pub mod ValidRules
 pub mod ValidPrograms
@@ -25,3 +28,4 @@ pub mod WholeRules
 pub mod Listings
 pub mod RuleLists
 pub mod WholePrograms
+mod Worked

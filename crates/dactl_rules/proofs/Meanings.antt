@@ -6,12 +6,12 @@ use Rattle.std.proofs.lemmas.List.{append-nil, take_more, map-append, length-map
 use Rattle.std.proofs.lemmas.List.Elements.{filter_map-append}
 use Rattle.dactl_model.specs.declared.program.Mention.TheVariants.{Old, Fresh}
 use Rattle.dactl_model.specs.declared.program.Move.{Move}
-use Rattle.dactl_syntax.specs.declared.tree.Name.{Name}
-use Rattle.dactl_syntax.specs.declared.tree.TermTree.{TermTree}
-use Rattle.dactl_syntax.specs.declared.tree.Part.{Part}
-use Rattle.dactl_syntax.specs.Expansion.{is_among, number_in}
-use Rattle.dactl_syntax.specs.Contractum as contractum
-use Rattle.dactl_syntax.specs.Contractum.{Sketch, Drawn, has_name, number_given, name_denotes, left_of_part, term_of_part, term_draws, terms_draw, made_by, move_of, moves_from, root_move, moves_of, has_star}
+use Rattle.dactl_meaning.specs.declared.tree.Name.{Name}
+use Rattle.dactl_meaning.specs.declared.tree.TermTree.{TermTree}
+use Rattle.dactl_meaning.specs.declared.tree.Part.{Part}
+use Rattle.dactl_meaning.specs.Expansion.{is_among, number_in}
+use Rattle.dactl_meaning.specs.Contractum as contractum
+use Rattle.dactl_meaning.specs.Contractum.{Sketch, Drawn, has_name, number_given, name_denotes, left_of_part, term_of_part, term_draws, terms_draw, made_by, move_of, moves_from, root_move, moves_of, has_star}
 use Rattle.dactl_rules.specs.Numbers.{first_from, variable_number, node_number}
 use Rattle.dactl_rules.specs.Meant.{move_by, moves_by, root_by}
 use Rattle.dactl_rules.proofs.Tables.{is_some-first}

@@ -1,9 +1,9 @@
 -- The names of a root, by the layer of the pattern at its top.
 use Rattle.std.proofs.Common.{◌≡◌, ℕ, Bool, List, [], ap, ◌∙◌, if◌then◌else◌}
-use Rattle.dactl_syntax.specs.declared.tree.Sign.{Sign}
-use Rattle.dactl_syntax.specs.declared.tree.PatternTree.{PatternTree}
-use Rattle.dactl_syntax.specs.declared.tree.PatternTree.TheVariants as p
-use Rattle.dactl_syntax.specs.Expansion.{has_plus, root_names, root_names_level}
+use Rattle.dactl_meaning.specs.declared.tree.Sign.{Sign}
+use Rattle.dactl_meaning.specs.declared.tree.PatternTree.{PatternTree}
+use Rattle.dactl_meaning.specs.declared.tree.PatternTree.TheVariants as p
+use Rattle.dactl_meaning.specs.Expansion.{has_plus, root_names, root_names_level}
 use Rattle.dactl_patterns.proofs.Trees.{fold_chain}
 use Rattle.dactl_patterns.proofs.Layers.{plus_kept}
 

@@ -6,13 +6,13 @@ use Rattle.std.proofs.lemmas.List.Elements.{All-append, All-from_recursion}
 use Rattle.std.proofs.lemmas.Grind.{flat_map-append}
 use Rattle.dactl_base.specs.declared.refusal.Refusal.{Refusal}
 use Rattle.dactl_model.specs.declared.program.Rule.{Rule}
-use Rattle.dactl_syntax.specs.declared.tree.Group.{Group}
-use Rattle.dactl_syntax.specs.declared.tree.RuleTree.{RuleTree}
-use Rattle.dactl_syntax.specs.declared.tree.TermTree.{TermTree}
-use Rattle.dactl_syntax.specs.declared.tree.Text.{Text}
-use Rattle.dactl_syntax.specs.Declarations.{Placed, PlacedGroup}
-use Rattle.dactl_syntax.specs.Meaning.{rule_of, rules_from}
-use Rattle.dactl_syntax.specs.RuleFaults.{rule_faults}
+use Rattle.dactl_meaning.specs.declared.tree.Group.{Group}
+use Rattle.dactl_meaning.specs.declared.tree.RuleTree.{RuleTree}
+use Rattle.dactl_meaning.specs.declared.tree.TermTree.{TermTree}
+use Rattle.dactl_meaning.specs.declared.tree.Text.{Text}
+use Rattle.dactl_meaning.specs.Declarations.{Placed, PlacedGroup}
+use Rattle.dactl_meaning.specs.Meaning.{rule_of, rules_from}
+use Rattle.dactl_meaning.specs.RuleFaults.{rule_faults}
 use Rattle.dactl_symbols.specs.Least.{sooner, precedes, TellsLeast}
 use Rattle.dactl_symbols.proofs.Sooner.{sooner-None, sooner-assoc}
 use Rattle.dactl_rules.specs.declared.compiled.CompiledRules.{CompiledRules}

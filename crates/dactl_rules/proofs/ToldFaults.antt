@@ -1,21 +1,21 @@
 -- The faults of a contractum, kind by kind, as the definitions list them.
-use Rattle.std.proofs.Common.{◌≡◌, ℕ, Bool, true, false, not, ◌||◌, cond, List, [], ◌∷◌, ◌++◌, length, map, count_by, Option, is_some, refl, sym, ap, ◌∙◌, append_assoc, if◌then◌else◌, nat_lt}
+use Rattle.std.proofs.Common.{◌≡◌, ℕ, ◌+◌, ◌<◌, Bool, true, false, not, ◌||◌, cond, List, [], ◌∷◌, ◌++◌, length, map, take, get_or, count_by, Option, is_some, refl, sym, ap, ◌∙◌, append_assoc, if◌then◌else◌, nat_lt}
 use Rattle.std.specs.List.{filter, flat_map, list_any}
 use Rattle.std.specs.Str.{bytes_eq}
-use Rattle.std.proofs.lemmas.List.{map-append}
+use Rattle.std.proofs.lemmas.List.{take_more, map-append}
 use Rattle.dactl_base.specs.declared.refusal.Kind.{Kind}
 use Rattle.dactl_base.specs.declared.refusal.Kind.TheVariants as kinds
 use Rattle.dactl_base.specs.declared.refusal.Place.{Place}
 use Rattle.dactl_base.specs.declared.refusal.Refusal.{Refusal}
-use Rattle.dactl_syntax.specs.declared.tree.Name.{Name}
-use Rattle.dactl_syntax.specs.declared.tree.Marks.{Marks}
-use Rattle.dactl_syntax.specs.declared.tree.Marks.TheVariants as marks
-use Rattle.dactl_syntax.specs.Sight.{Seen}
-use Rattle.dactl_syntax.specs.Expansion.{is_among}
-use Rattle.dactl_syntax.specs.Contractum.{Core, Number, Of, Sketch, MentionTree, has_name, name_list, given_names}
-use Rattle.dactl_syntax.specs.RuleFaults.{each_at, again, place_of, core_names, is_pattern, mark_on_bound, too_many_waits_at, at_if}
+use Rattle.dactl_meaning.specs.declared.tree.Name.{Name}
+use Rattle.dactl_meaning.specs.declared.tree.Marks.{Marks}
+use Rattle.dactl_meaning.specs.declared.tree.Marks.TheVariants as marks
+use Rattle.dactl_meaning.specs.Sight.{Seen}
+use Rattle.dactl_meaning.specs.Expansion.{is_among}
+use Rattle.dactl_meaning.specs.Contractum.{Core, Number, Character, Of, Sketch, MentionTree, has_name, name_list, given_names}
+use Rattle.dactl_meaning.specs.RuleFaults.{each_at, again, place_of, core_names, is_pattern, mark_on_bound, too_many_waits_at, at_if}
 use Rattle.dactl_rules.specs.Numbers.{node_number, variable_number}
-use Rattle.dactl_rules.specs.Told.{fault_at, core_fault, wide_at, names_pattern, creatable_at, waits_at, waits_fault, unbound_at, mark_fault, mark_at, drawn_faults}
+use Rattle.dactl_rules.specs.Told.{fault_at, core_fault, wide_at, names_pattern, creatable_at, waits_at, waits_fault, unbound_at, mark_fault, mark_at, suspensions_in, faults_again, drawn_faults}
 use Rattle.dactl_rules.proofs.Tables.{is_some-first}
 use Rattle.dactl_rules.proofs.ValidTests.{or_assoc}
 
@@ -55,6 +55,17 @@ pub kept-append : {X : Type 0} (p : X → Bool) (xs ys : List X) → filter p (x
 kept-append p [] ys = refl
 kept-append p (x ∷ xs) ys = kept-append_by (p x) x (filter p xs) (filter p ys) (filter p (xs ++ ys)) (kept-append p xs ys)
 
+one_kept : {X : Type 0} (b : Bool) (x : X) → cond b (x ∷ []) [] ≡ (if b then x ∷ [] else [])
+one_kept true x = refl
+one_kept false x = refl
+
+-- what passes a test, one element more
+pub kept_more : {X Y : Type 0} (p : Y → Bool) (f : X → Y) (xs : List X) (i : ℕ) (x : X) → i < length xs → x ≡ get_or xs i x
+    → filter p (map f (take (i + 1) xs)) ≡ filter p (map f (take i xs)) ++ (if p (f x) then f x ∷ [] else [])
+kept_more p f xs i x lt is =
+    ap (λ (z : List _). filter p (map f z)) (take_more xs i x lt ∙ ap (λ (z : _). take i xs ++ z ∷ []) (sym is))
+    ∙ ap (filter p) (map-append f (take i xs) (x ∷ [])) ∙ kept-append p (map f (take i xs)) (f x ∷ []) ∙ ap (λ (z : List _). filter p (map f (take i xs)) ++ z) (one_kept (p (f x)) (f x))
+
 kept_flat : {X Y : Type 0} (p : Y → Bool) (g : X → List Y) (xs : List X) → flat_map (λ x. filter p (g x)) xs ≡ filter p (flat_map g xs)
 kept_flat p g [] = refl
 kept_flat p g (x ∷ xs) = ap (λ (z : List _). filter p (g x) ++ z) (kept_flat p g xs) ∙ sym (kept-append p (g x) (flat_map g xs))
@@ -63,8 +74,10 @@ kept_flat p g (x ∷ xs) = ap (λ (z : List _). filter p (g x) ++ z) (kept_flat 
 
 pub core_told : (b : Bool) (kind : Kind) (c : Core) → core_fault b kind c ≡ each_at kind (if b then map place_of (core_names c) else [])
 core_told true kind (Number value) = refl
+core_told true kind (Character value) = refl
 core_told true kind (Of name) = refl
 core_told false kind (Number value) = refl
+core_told false kind (Character value) = refl
 core_told false kind (Of name) = refl
 
 pub wide_told : (made : List Sketch) → flat_map wide_at made ≡ each_at kinds.TooWide (map place_of (flat_map (λ s. core_names s.core) (filter (λ s. nat_lt 16 (length s.arcs)) made)))
@@ -80,6 +93,7 @@ pattern_by false name = refl
 
 pattern_told : (look : List ℕ → Option Seen) (c : Core) → core_fault (names_pattern look c) kinds.NotCreatable c ≡ each_at kinds.NotCreatable (map place_of (filter (λ n. is_pattern (look n.text)) (core_names c)))
 pattern_told look (Number value) = refl
+pattern_told look (Character value) = refl
 pattern_told look (Of name) = pattern_by (is_pattern (look name.text)) name
 
 pub creatable_told : (look : List ℕ → Option Seen) (made : List Sketch) → flat_map (creatable_at look) made ≡ each_at kinds.NotCreatable (map place_of (filter (λ n. is_pattern (look n.text)) (flat_map (λ s. core_names s.core) made)))
@@ -114,24 +128,23 @@ unbound_told bound among same mentions =
     (λ m. place_by (not (bound m.name.text)) kinds.Unbound m.name.place ∙ ap (λ (b : Bool). each_at kinds.Unbound (if not b then place_of m.name ∷ [] else [])) (same m.name.text)) mentions
     ∙ ap (each_at kinds.Unbound) (map_kept (λ (m : MentionTree). not (among m.name.text)) (λ (m : MentionTree). place_of m.name) mentions)
 
-mark_one : (b v : Bool) (m : Marks) → mark_fault b v m ≡ each_at kinds.MarkOnBound (if b then mark_on_bound v m else [])
-mark_one true true marks.Plain = refl
-mark_one true false marks.Plain = refl
-mark_one false v marks.Plain = refl
-mark_one true true (marks.Star p) = refl
-mark_one true false (marks.Star p) = refl
-mark_one false v (marks.Star p) = refl
-mark_one true v (marks.Hashes p count) = refl
-mark_one false v (marks.Hashes p count) = refl
+mark_one : (b v r : Bool) (m : Marks) → mark_fault b v r m ≡ each_at kinds.MarkOnBound (if b then mark_on_bound v r m else [])
+mark_one true v r marks.Plain = refl
+mark_one false v r marks.Plain = refl
+mark_one true true r (marks.Star p) = refl
+mark_one true false r (marks.Star p) = refl
+mark_one false v r (marks.Star p) = refl
+mark_one true v true (marks.Hashes p count) = refl
+mark_one true v false (marks.Hashes p count) = refl
+mark_one false v r (marks.Hashes p count) = refl
 
-pub marks_told : (bound variable among is_variable : List ℕ → Bool) → ((w : List ℕ) → bound w ≡ among w) → ((w : List ℕ) → variable w ≡ is_variable w) → (mentions : List MentionTree)
-    → flat_map (mark_at bound variable) mentions ≡ each_at kinds.MarkOnBound (flat_map (λ m. mark_on_bound (is_variable m.name.text) m.marks) (filter (λ m. among m.name.text) mentions))
-marks_told bound variable among is_variable same alike mentions =
-    each_flat kinds.MarkOnBound (mark_at bound variable) (λ m. if among m.name.text then mark_on_bound (is_variable m.name.text) m.marks else [])
-    (λ m. mark_one (bound m.name.text) (variable m.name.text) m.marks
-    ∙ ap (λ (b : Bool). each_at kinds.MarkOnBound (if b then mark_on_bound (variable m.name.text) m.marks else [])) (same m.name.text)
-    ∙ ap (λ (v : Bool). each_at kinds.MarkOnBound (if among m.name.text then mark_on_bound v m.marks else [])) (alike m.name.text)) mentions
-    ∙ ap (each_at kinds.MarkOnBound) (flat_kept (λ (m : MentionTree). among m.name.text) (λ (m : MentionTree). mark_on_bound (is_variable m.name.text) m.marks) mentions)
+pub marks_told : (bound among is_variable is_root : List ℕ → Bool) → ((w : List ℕ) → bound w ≡ among w) → (mentions : List MentionTree)
+    → flat_map (mark_at bound is_variable is_root) mentions ≡ each_at kinds.MarkOnBound (flat_map (λ m. mark_on_bound (is_variable m.name.text) (is_root m.name.text) m.marks) (filter (λ m. among m.name.text) mentions))
+marks_told bound among is_variable is_root same mentions =
+    each_flat kinds.MarkOnBound (mark_at bound is_variable is_root) (λ m. if among m.name.text then mark_on_bound (is_variable m.name.text) (is_root m.name.text) m.marks else [])
+    (λ m. mark_one (bound m.name.text) (is_variable m.name.text) (is_root m.name.text) m.marks
+    ∙ ap (λ (b : Bool). each_at kinds.MarkOnBound (if b then mark_on_bound (is_variable m.name.text) (is_root m.name.text) m.marks else [])) (same m.name.text)) mentions
+    ∙ ap (each_at kinds.MarkOnBound) (flat_kept (λ (m : MentionTree). among m.name.text) (λ (m : MentionTree). mark_on_bound (is_variable m.name.text) (is_root m.name.text) m.marks) mentions)
 
 -- ---- which names are bound
 
@@ -161,16 +174,17 @@ bound_told variables made given w e =
 both : {A : Type 0} (a b x y z : List A) → y ≡ x ++ a → z ≡ y ++ b → z ≡ x ++ (a ++ b)
 both a b x y z e f = f ∙ ap (λ (k : List _). k ++ b) e ∙ append_assoc x a b
 
-pub all_told : (look : List ℕ → Option Seen) (variables : List (List ℕ)) (made made_here : List Sketch) (mentions mentions_here : List MentionTree) (given : List ℕ → Option ℕ) (f0 f1 f2 f3 f4 f5 f6 : List Refusal)
+pub all_told : (look : List ℕ → Option Seen) (variables roots : List (List ℕ)) (made made_here : List Sketch) (mentions mentions_here : List MentionTree) (given : List ℕ → Option ℕ) (f0 f1 f2 f3 f4 f5 f6 f7 : List Refusal)
     → made_here ≡ made → mentions_here ≡ mentions → ((w : List ℕ) → given w ≡ node_number made w)
     → f1 ≡ f0 ++ flat_map wide_at made_here
     → f2 ≡ f1 ++ flat_map (unbound_at (λ w. is_some (variable_number variables w) || is_some (given w))) mentions_here
     → f3 ≡ f2 ++ each_at kinds.NamedTwice (map place_of (again variables (given_names made_here)))
     → f4 ≡ f3 ++ flat_map (creatable_at look) made_here
-    → f5 ≡ f4 ++ flat_map (mark_at (λ w. is_some (variable_number variables w) || is_some (given w)) (λ w. is_some (variable_number variables w))) mentions_here
-    → f6 ≡ f5 ++ flat_map waits_at made_here
-    → f6 ≡ f0 ++ drawn_faults look variables made mentions
-all_told look variables made made_here mentions mentions_here given f0 f1 f2 f3 f4 f5 f6 is_made is_mentioned is_given e1 e2 e3 e4 e5 e6 =
+    → f5 ≡ f4 ++ flat_map (mark_at (λ w. is_some (variable_number variables w) || is_some (given w)) (is_among variables) (is_among roots)) mentions_here
+    → f6 ≡ f5 ++ faults_again (suspensions_in roots mentions_here)
+    → f7 ≡ f6 ++ flat_map waits_at made_here
+    → f7 ≡ f0 ++ drawn_faults look variables roots made mentions
+all_told look variables roots made made_here mentions mentions_here given f0 f1 f2 f3 f4 f5 f6 f7 is_made is_mentioned is_given e1 e2 e3 e4 e5 e6 e7 =
     let bound : List ℕ → Bool = λ w. is_some (variable_number variables w) || is_some (given w) in
     let among : List ℕ → Bool = λ w. is_among (variables ++ map (λ n. n.text) (given_names made)) w in
     let same : (w : List ℕ) → bound w ≡ among w = λ w. bound_told variables made (given w) w (is_given w) in
@@ -178,7 +192,8 @@ all_told look variables made made_here mentions mentions_here given f0 f1 f2 f3 
     let d2 = e2 ∙ ap (λ (z : List MentionTree). f1 ++ flat_map (unbound_at bound) z) is_mentioned ∙ ap (λ (z : List Refusal). f1 ++ z) (unbound_told bound among same mentions) in
     let d3 = e3 ∙ ap (λ (z : List Sketch). f2 ++ each_at kinds.NamedTwice (map place_of (again variables (given_names z)))) is_made in
     let d4 = e4 ∙ ap (λ (z : List Sketch). f3 ++ flat_map (creatable_at look) z) is_made ∙ ap (λ (z : List Refusal). f3 ++ z) (creatable_told look made) in
-    let d5 = e5 ∙ ap (λ (z : List MentionTree). f4 ++ flat_map (mark_at bound (λ w. is_some (variable_number variables w))) z) is_mentioned
-    ∙ ap (λ (z : List Refusal). f4 ++ z) (marks_told bound (λ w. is_some (variable_number variables w)) among (is_among variables) same (variable_told variables) mentions) in
-    let d6 = e6 ∙ ap (λ (z : List Sketch). f5 ++ flat_map waits_at z) is_made ∙ ap (λ (z : List Refusal). f5 ++ z) (waits_told made) in
-    both _ _ f0 f5 f6 (both _ _ f0 f4 f5 (both _ _ f0 f3 f4 (both _ _ f0 f2 f3 (both _ _ f0 f1 f2 d1 d2) d3) d4) d5) d6
+    let d5 = e5 ∙ ap (λ (z : List MentionTree). f4 ++ flat_map (mark_at bound (is_among variables) (is_among roots)) z) is_mentioned
+    ∙ ap (λ (z : List Refusal). f4 ++ z) (marks_told bound among (is_among variables) (is_among roots) same mentions) in
+    let d6 = e6 ∙ ap (λ (z : List MentionTree). f5 ++ faults_again (suspensions_in roots z)) is_mentioned in
+    let d7 = e7 ∙ ap (λ (z : List Sketch). f6 ++ flat_map waits_at z) is_made ∙ ap (λ (z : List Refusal). f6 ++ z) (waits_told made) in
+    both _ _ f0 f6 f7 (both _ _ f0 f5 f6 (both _ _ f0 f4 f5 (both _ _ f0 f3 f4 (both _ _ f0 f2 f3 (both _ _ f0 f1 f2 d1 d2) d3) d4) d5) d6) d7

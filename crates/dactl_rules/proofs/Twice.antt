@@ -1,21 +1,22 @@
 -- Names that are given again.
 use Rattle.std.proofs.Common.{◌≡◌, ℕ, ◌+◌, ◌<◌, Bool, true, false, ◌||◌, cond, List, [], ◌∷◌, ◌++◌, length, map, take, get_or, Option, Some, None, is_some, refl, sym, ap, ◌∙◌, append_assoc, if◌then◌else◌}
+use Rattle.std.specs.Option.{option_or}
 use Rattle.std.specs.Str.{bytes_eq}
 use Rattle.std.proofs.lemmas.Slice.Eq.{bytes_eq-Decides}
 use Rattle.std.proofs.lemmas.List.{append-nil, take_more, map-append}
 use Rattle.std.proofs.lemmas.Grind.{flat_map-append}
 use Rattle.dactl_base.specs.declared.refusal.Kind.{Kind}
 use Rattle.dactl_base.specs.declared.refusal.Refusal.{Refusal}
-use Rattle.dactl_syntax.specs.declared.tree.Name.{Name}
-use Rattle.dactl_syntax.specs.Expansion.{is_among}
-use Rattle.dactl_syntax.specs.Contractum as contractum
-use Rattle.dactl_syntax.specs.Contractum.{name_list, given_names}
-use Rattle.dactl_syntax.specs.RuleFaults.{each_at, again, place_of}
+use Rattle.dactl_meaning.specs.declared.tree.Name.{Name}
+use Rattle.dactl_meaning.specs.Expansion.{is_among}
+use Rattle.dactl_meaning.specs.Contractum as contractum
+use Rattle.dactl_meaning.specs.Contractum.{name_list, given_names}
+use Rattle.dactl_meaning.specs.RuleFaults.{each_at, again, place_of}
 use Rattle.dactl_rules.specs.declared.drawing.Sketch.{Sketch}
 use Rattle.dactl_rules.specs.Drawing.{sketch_of, named}
-use Rattle.dactl_rules.specs.Numbers.{found, noted, variable_number}
+use Rattle.dactl_rules.specs.Numbers.{found, Notes, variable_number}
 use Rattle.dactl_rules.specs.Told.{fault_at}
-use Rattle.dactl_rules.proofs.Tables.{or_else, found-noted, is_some-first}
+use Rattle.dactl_rules.proofs.Tables.{is_some-first}
 
 -- the names that count as seen behind some names
 abbrev pub seen_after : List (List ℕ) → List Name → List (List ℕ)
@@ -43,17 +44,17 @@ seen-push : (seen : List (List ℕ)) (ns : List Name) (n : Name) → seen_after 
 seen-push seen [] n = refl
 seen-push seen (m ∷ ns) n = seen-push (if is_among seen m.text then seen else m.text ∷ seen) ns n
 
-is_some-or_else : (a b : Option ℕ) → is_some (or_else a b) ≡ (is_some a || is_some b)
-is_some-or_else None b = refl
-is_some-or_else (Some n) b = refl
+is_some-option_or : (a b : Option ℕ) → is_some (option_or a b) ≡ (is_some a || is_some b)
+is_some-option_or None b = refl
+is_some-option_or (Some n) b = refl
 
 is_some-if : (b : Bool) (n : ℕ) → is_some (if b then Some n else None) ≡ b
 is_some-if true n = refl
 is_some-if false n = refl
 
 -- what the table says once the name is noted
-noted_seen : (table : List (List ℕ × ℕ)) (n v : List ℕ) → is_some (found (noted table n 0) v) ≡ (is_some (found table v) || bytes_eq n v)
-noted_seen table n v = ap is_some (found-noted table n 0 v) ∙ is_some-or_else (found table v) (if bytes_eq n v then Some 0 else None) ∙ ap (λ (z : Bool). is_some (found table v) || z) (is_some-if (bytes_eq n v) 0)
+noted_seen : (table next : List (List ℕ × ℕ)) (n v : List ℕ) → Notes n 0 table next → is_some (found next v) ≡ (is_some (found table v) || bytes_eq n v)
+noted_seen table next n v noted = ap is_some (noted v) ∙ is_some-option_or (found table v) (if bytes_eq n v then Some 0 else None) ∙ ap (λ (z : Bool). is_some (found table v) || z) (is_some-if (bytes_eq n v) 0)
 
 bools : (p q e : Bool) → (e || (p || q)) ≡ (p || (q || e))
 bools true q true = refl
@@ -97,10 +98,10 @@ or_none false = refl
 pub twice_start : (kind : Kind) (variables : List (List ℕ)) (start : List Refusal) → AreTwice kind variables [] [] start start
 twice_start kind variables start = record { told = sym (append-nil start); seen = λ w. sym (is_some-first (λ v. bytes_eq v w) 0 variables) ∙ or_none (is_some (variable_number variables w)) }
 
-pub twice_more : (kind : Kind) (variables : List (List ℕ)) (names : List Name) (table : List (List ℕ × ℕ)) (start faults next : List Refusal) (n : Name) (known : Bool) → AreTwice kind variables names table start faults
+pub twice_more : (kind : Kind) (variables : List (List ℕ)) (names : List Name) (table table_next : List (List ℕ × ℕ)) (start faults next : List Refusal) (n : Name) (known : Bool) → AreTwice kind variables names table start faults → Notes n.text 0 table table_next
     → known ≡ (is_some (variable_number variables n.text) || is_some (found table n.text)) → next ≡ faults ++ fault_at known kind n.place
-    → AreTwice kind variables (names ++ n ∷ []) (noted table n.text 0) start next
-twice_more kind variables names table start faults next n known h k step =
+    → AreTwice kind variables (names ++ n ∷ []) table_next start next
+twice_more kind variables names table table_next start faults next n known h noted k step =
     let s = seen_after variables names in
     let same : known ≡ is_among s n.text = k ∙ sym (h.seen n.text) in
     record {
@@ -112,7 +113,7 @@ twice_more kind variables names table start faults next n known h k step =
       seen = λ w.
           ap (λ (z : List (List ℕ)). is_among z w) (seen-push variables names n)
           ∙ seen_by (is_among s n.text) (bytes_eq n.text w) s n.text w (is_some (variable_number variables w)) (is_some (found table w)) refl refl (h.seen w)
-          ∙ ap (λ (z : Bool). is_some (variable_number variables w) || z) (sym (noted_seen table n.text w));
+          ∙ ap (λ (z : Bool). is_some (variable_number variables w) || z) (sym (noted_seen table table_next n.text w noted));
     }
 
 -- the names that sketches have, one sketch more

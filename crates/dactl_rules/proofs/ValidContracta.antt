@@ -12,16 +12,16 @@ use Rattle.dactl_model.specs.declared.program.FreshArc.{FreshArc}
 use Rattle.dactl_model.specs.declared.program.FreshNode.{FreshNode}
 use Rattle.dactl_model.specs.Programs.{IsMention, IsLabel, IsFreshMark, IsFreshNode, AreFreshNodes}
 use Rattle.dactl_model.proofs.Unique.{right_true}
-use Rattle.dactl_syntax.specs.declared.tree.Name.{Name}
-use Rattle.dactl_syntax.specs.declared.tree.Marks.{Marks}
-use Rattle.dactl_syntax.specs.declared.tree.Marks.TheVariants as marks
-use Rattle.dactl_syntax.specs.declared.tree.TermTree.{TermTree}
-use Rattle.dactl_syntax.specs.Sight.{Seen, SeenSymbol, SeenPattern}
-use Rattle.dactl_syntax.specs.Uses.{Use, term_uses}
-use Rattle.dactl_syntax.specs.Expansion.{is_among, number_in}
-use Rattle.dactl_syntax.specs.Contractum.{Target, Made, Named, Core, Number, Of, Sketch, Drawn, terms_draw, made_by, MentionTree, mentions_of, name_list, given_names, has_name, number_given, name_denotes, denotes, mark_of, symbol_label, label_of, fresh_of, fresh_nodes, has_star, wakes_of}
-use Rattle.dactl_syntax.specs.RuleFaults.{place_of, at_if, core_names, wide_in_contractum, is_pattern, not_creatable, bound_names, unbound_mentions, too_many_waits_at, too_many_waits, named_twice_in_contractum, marks_on_bound, each_at, contractum_faults}
-use Rattle.dactl_syntax.specs.Spelling.{is_counted, is_whole}
+use Rattle.dactl_meaning.specs.declared.tree.Name.{Name}
+use Rattle.dactl_meaning.specs.declared.tree.Marks.{Marks}
+use Rattle.dactl_meaning.specs.declared.tree.Marks.TheVariants as marks
+use Rattle.dactl_meaning.specs.declared.tree.TermTree.{TermTree}
+use Rattle.dactl_meaning.specs.Sight.{Seen, SeenSymbol, SeenPattern}
+use Rattle.dactl_meaning.specs.Uses.{Use, term_uses}
+use Rattle.dactl_meaning.specs.Expansion.{is_among, number_in}
+use Rattle.dactl_meaning.specs.Contractum.{Target, Made, Named, Core, Number, Character, Of, Sketch, Drawn, terms_draw, made_by, MentionTree, mentions_of, name_list, given_names, has_name, number_given, name_denotes, denotes, mark_of, symbol_label, label_of, fresh_of, fresh_nodes, has_star, wakes_of}
+use Rattle.dactl_meaning.specs.RuleFaults.{place_of, at_if, core_names, wide_in_contractum, is_pattern, not_creatable, bound_names, unbound_mentions, too_many_waits_at, too_many_waits, named_twice_in_contractum, marks_on_bound, suspended_again, each_at, contractum_faults}
+use Rattle.dactl_meaning.specs.Spelling.{is_counted, is_whole}
 use Rattle.dactl_rules.specs.Counting.{AreCountable}
 use Rattle.dactl_rules.proofs.ValidLists.{In, in_left, in_right, in_map, map_in, in_flat, flat_in, in_filter, filter_in, all_of}
 use Rattle.dactl_rules.proofs.ValidTests.{right_only, is_true, not_above, at_least}
@@ -60,15 +60,17 @@ pub record HasNoFault (look : List ℕ → Option Seen) (variables : List (List 
   pub creatable : NoPlace (not_creatable look terms)
   pub waits : NoPlace (too_many_waits terms)
 
-pub has_no_fault : (look : List ℕ → Option Seen) (variables : List (List ℕ)) (terms : List TermTree) → Faultless (contractum_faults look variables terms) → HasNoFault look variables terms
-has_no_fault look variables terms h =
+pub has_no_fault : (look : List ℕ → Option Seen) (variables roots : List (List ℕ)) (terms : List TermTree) → Faultless (contractum_faults look variables roots terms) → HasNoFault look variables terms
+has_no_fault look variables roots terms h =
     let wide = each_at kinds.TooWide (wide_in_contractum terms) in
     let unbound = each_at kinds.Unbound (unbound_mentions variables terms) in
     let twice = each_at kinds.NamedTwice (named_twice_in_contractum variables terms) in
     let creatable = each_at kinds.NotCreatable (not_creatable look terms) in
-    let marked = each_at kinds.MarkOnBound (marks_on_bound variables terms) in
+    let marked = each_at kinds.MarkOnBound (marks_on_bound variables roots terms) in
+    let suspended = each_at kinds.MarkOnBound (suspended_again roots terms) in
     let waits = each_at kinds.TooManyWaits (too_many_waits terms) in
-    let to_marked = faultless_left (wide ++ unbound ++ twice ++ creatable ++ marked) waits h in
+    let to_suspended = faultless_left (wide ++ unbound ++ twice ++ creatable ++ marked ++ suspended) waits h in
+    let to_marked = faultless_left (wide ++ unbound ++ twice ++ creatable ++ marked) suspended to_suspended in
     let to_creatable = faultless_left (wide ++ unbound ++ twice ++ creatable) marked to_marked in
     let to_twice = faultless_left (wide ++ unbound ++ twice) creatable to_creatable in
     let to_unbound = faultless_left (wide ++ unbound) twice to_twice in
@@ -76,7 +78,7 @@ has_no_fault look variables terms h =
       wide = no_place kinds.TooWide (wide_in_contractum terms) (faultless_left wide unbound to_unbound);
       unbound = no_place kinds.Unbound (unbound_mentions variables terms) (faultless_right wide unbound to_unbound);
       creatable = no_place kinds.NotCreatable (not_creatable look terms) (faultless_right (wide ++ unbound ++ twice) creatable to_creatable);
-      waits = no_place kinds.TooManyWaits (too_many_waits terms) (faultless_right (wide ++ unbound ++ twice ++ creatable ++ marked) waits h);
+      waits = no_place kinds.TooManyWaits (too_many_waits terms) (faultless_right (wide ++ unbound ++ twice ++ creatable ++ marked ++ suspended) waits h);
     }
 
 -- ---- what names denote
@@ -142,6 +144,7 @@ module _ (look : List ℕ → Option Seen) (variables : List (List ℕ)) (terms 
     where
       by_core : (c : Core) → s.core ≡ c → IsCore (IsSeen look) c s.arcs → length s.arcs ≤ 16
       by_core (Number value) e k = let none : length s.arcs ≡ 0 = ap length k in omega (arith, none)
+      by_core (Character value) e k = let none : length s.arcs ≡ 0 = ap length k in omega (arith, none)
       by_core (Of name) e k = not_above 16 (length s.arcs) ((elim (nat_lt 16 (length s.arcs)) as (λ b. nat_lt 16 (length s.arcs) ≡ b → b ≡ false) [
         | true ↦ λ t. absurd (fine.wide (place_of name) (in_map place_of _ name
             (in_flat (λ (z : Sketch). core_names z.core) (filter (λ (z : Sketch). nat_lt 16 (length z.arcs)) made) s name (in_filter (λ (z : Sketch). nat_lt 16 (length z.arcs)) made s h t)
@@ -160,6 +163,7 @@ module _ (look : List ℕ → Option Seen) (variables : List (List ℕ)) (terms 
 
       by_core : (c : Core) → s.core ≡ c → IsCore (IsSeen look) c s.arcs → IsLabel symbols (label_of look c) (length s.arcs)
       by_core (Number value) e k = ap length k
+      by_core (Character value) e k = ap length k
       by_core (Of name) e k = subst (λ o. IsLabel symbols (symbol_label o) (length s.arcs)) (sym k.1) (by_seen name e k.0 k.1)
 
   abbrev flags : Sketch → ℕ

@@ -68,6 +68,11 @@ filter_map_in {X} f (x ∷ xs) y h = (elim (f x) as (λ o. f x ≡ o → In (con
   | Some z ↦ λ e k. elim k [ inl same ↦ (x, inl refl, e ∙ ap Some same) | inr more ↦ (let r = filter_map_in f xs y more in (r.0, inr r.1, r.2)) ]
 ]) refl h
 
+pub in_filter_map : {X Y : Type 0} (f : X → Option Y) (xs : List X) (x : X) (y : Y) → In xs x → f x ≡ Some y → In (filter_map f xs) y
+in_filter_map f [] x y h e = absurd h
+in_filter_map f (z ∷ xs) x y (inl same) e = let t : f z ≡ Some y = ap f same ∙ e in rw t (inl refl)
+in_filter_map f (z ∷ xs) x y (inr h) e = (elim (f z) as (λ o. In (cons_option o (filter_map f xs)) y) [ None ↦ in_filter_map f xs x y h e | Some w ↦ inr (in_filter_map f xs x y h e) ])
+
 pub in_place : {X : Type 0} (xs : List X) (x : X) → In xs x → Contains xs x
 in_place [] x h = absurd h
 in_place (y ∷ xs) x (inl e) = (0, omega arith, e)

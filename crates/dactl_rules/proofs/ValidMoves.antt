@@ -4,12 +4,12 @@ use Rattle.dactl_model.specs.declared.program.Left.{Left}
 use Rattle.dactl_model.specs.declared.program.Left.TheVariants.{Root, Variable}
 use Rattle.dactl_model.specs.declared.program.Move.{Move}
 use Rattle.dactl_model.specs.Programs.{IsMention, IsLeft}
-use Rattle.dactl_syntax.specs.declared.tree.Name.{Name}
-use Rattle.dactl_syntax.specs.declared.tree.TermTree.{TermTree}
-use Rattle.dactl_syntax.specs.declared.tree.Part.{Part}
-use Rattle.dactl_syntax.specs.Expansion.{is_among, number_in}
-use Rattle.dactl_syntax.specs.Contractum.{Sketch, Drawn, term_draws, terms_draw, term_of_part, left_of_part, name_list, denotes, move_of, moves_from, root_move}
-use Rattle.dactl_syntax.specs.RuleFaults.{again, lefts_of}
+use Rattle.dactl_meaning.specs.declared.tree.Name.{Name}
+use Rattle.dactl_meaning.specs.declared.tree.TermTree.{TermTree}
+use Rattle.dactl_meaning.specs.declared.tree.Part.{Part}
+use Rattle.dactl_meaning.specs.Expansion.{is_among, number_in}
+use Rattle.dactl_meaning.specs.Contractum.{Sketch, Drawn, term_draws, terms_draw, term_of_part, left_of_part, name_list, denotes, move_of, moves_from, root_move}
+use Rattle.dactl_meaning.specs.RuleFaults.{again, lefts_of}
 use Rattle.dactl_rules.proofs.ValidLists.{In, Pairs, in_either, in_map, map_in, all_of, all_pairs_of, pairs_append, pairs_map, pairs_unmap, pairs_weaker}
 use Rattle.dactl_rules.proofs.ValidTests.{neither_left, neither_right}
 use Rattle.dactl_rules.proofs.ValidVariables.{name_unequal, number_below, number_once}
@@ -97,6 +97,12 @@ module _ (variables : List (List ℕ)) (made : List Sketch) where
       all_once = all_pairs_of (λ (a b : Move). a.from ≢ b.from) all_moves
           (pairs_append (λ (a b : Move). a.from ≢ b.from) (root_move variables made redirects (map term_of_part ps)) (moves_from variables made 0 ps) (root_once redirects (map term_of_part ps)) (moves_once 0)
           (λ x y in_x in_y same. not_root x.from _ (root_leads redirects (map term_of_part ps) x in_x).0 (same ∙ sym (from_left 0 y in_y).2)))
+
+      pub all_beside : (Beside : Left → Type 0) → redirects ≡ false → ((n : Name) → In (lefts_of ps) n → Beside (left_of n)) → All (λ (m : Move). Beside m.from) all_moves
+      all_beside Beside kept each = all_of (λ (m : Move). Beside m.from) all_moves (λ m h. elim (in_either (root_move variables made redirects (map term_of_part ps)) _ m h) [
+        | inl at_root ↦ absurd (subst (λ b. In (root_move variables made b (map term_of_part ps)) m) kept at_root)
+        | inr later ↦ (let l = from_left 0 m later in subst Beside l.2 (each l.0 l.1))
+      ])
 
       pub all_end : (fresh : ℕ) → ((d : Drawn) → In (terms_draw 0 (map term_of_part ps)) d → IsMention (length variables) fresh (denotes variables made d.target))
           → All (λ (m : Move). IsLeft (length variables) m.from × IsMention (length variables) fresh m.to) all_moves

@@ -6,12 +6,12 @@ use Rattle.dactl_base.specs.declared.refusal.Kind.TheVariants as kinds
 use Rattle.dactl_model.specs.declared.program.Class.{Class}
 use Rattle.dactl_model.specs.declared.program.Symbol.{Symbol}
 use Rattle.dactl_model.specs.Names.{is_upper_name}
-use Rattle.dactl_syntax.specs.declared.tree.Text.{Text}
-use Rattle.dactl_syntax.specs.Faults.{NoFault}
-use Rattle.dactl_syntax.specs.Declarations.{Written, same_home, Entity, AsModule, AsSymbol, AsPattern, Declaration, own_names, all_names, is_called, meaning, entity_symbol, is_symbol, symbol_names, symbols, number_of, rules}
-use Rattle.dactl_syntax.specs.Sight.{Seen, SeenSymbol, SeenPattern, imports_from, class_seen, entity_seen, sees, entity_class, class_for}
-use Rattle.dactl_syntax.specs.Uses.{Use, uses}
-use Rattle.dactl_syntax.specs.ScopeFaults.{most_names, most_rules, is_usable, is_pattern, ScopeFault}
+use Rattle.dactl_meaning.specs.declared.tree.Text.{Text}
+use Rattle.dactl_meaning.specs.Faults.{NoFault}
+use Rattle.dactl_meaning.specs.Declarations.{Written, same_home, Entity, AsModule, AsSymbol, AsPattern, Declaration, own_names, all_names, is_called, meaning, entity_symbol, is_symbol, symbol_names, symbols, number_of, rules}
+use Rattle.dactl_meaning.specs.Sight.{Seen, SeenSymbol, SeenPattern, imports_from, class_seen, entity_seen, sees, entity_class, class_for}
+use Rattle.dactl_meaning.specs.Uses.{Use, uses}
+use Rattle.dactl_meaning.specs.ScopeFaults.{most_names, most_rules, is_usable, is_pattern, ScopeFault}
 use Rattle.dactl_rules.proofs.ValidLists.{In, Pairs, any_of, all_of, all_in, in_filter, filter_map_in, pairs_of_splits, pairs_filter_map, length_filter_map, length_none, length_some}
 use Rattle.dactl_rules.proofs.ValidPatterns.{SeesSymbol}
 
@@ -44,11 +44,11 @@ symbol_name word AsModule s h = absurd cc
 symbol_name word (AsSymbol class public) s h = (ap (λ (z : Option Symbol). elim z [ None ↦ word | Some t ↦ t.name ]) h, refl)
 symbol_name word (AsPattern public m i) s h = absurd cc
 
-pub names_upper : (text : Text) → All (λ d. IsTrue (is_upper_name d.name.text)) (symbol_names text) → All (λ s. IsTrue (is_upper_name s.name)) (symbols text)
-names_upper text upper = all_of _ (symbols text) (λ s h.
+pub names_upper : (wide : Bool) (text : Text) → All (λ d. IsTrue (is_upper_name wide d.name.text)) (symbol_names text) → All (λ s. IsTrue (is_upper_name wide s.name)) (symbols text)
+names_upper wide text upper = all_of _ (symbols text) (λ s h.
     let r = filter_map_in (λ (d : Declaration). entity_symbol d.name.text d.entity) (all_names text) s h in
     let is = symbol_name r.0.name.text r.0.entity s r.2 in
-    subst (λ w. IsTrue (is_upper_name w)) is.0 (all_in (λ (d : Declaration). IsTrue (is_upper_name d.name.text)) (symbol_names text) upper r.0 (in_filter (λ (d : Declaration). is_symbol d.entity) (all_names text) r.0 r.1 is.1)))
+    subst (λ w. IsTrue (is_upper_name wide w)) is.0 (all_in (λ (d : Declaration). IsTrue (is_upper_name wide d.name.text)) (symbol_names text) upper r.0 (in_filter (λ (d : Declaration). is_symbol d.entity) (all_names text) r.0 r.1 is.1)))
 
 pub names_distinct : (text : Text) → NoFault (ScopeFault text) → Pairs (λ (a b : Symbol). a.name ≢ b.name) (symbols text)
 names_distinct text fine =

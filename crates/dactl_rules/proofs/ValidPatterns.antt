@@ -12,18 +12,18 @@ use Rattle.dactl_model.specs.Programs.{symbols_below, symbols_level}
 use Rattle.dactl_model.proofs.Found.{binds_roll, allows_roll, or_cases}
 use Rattle.dactl_model.proofs.Unique.{left_true, right_true}
 use Rattle.dactl_model.proofs.Induction.{Each as EachPat, pat_induction}
-use Rattle.dactl_syntax.specs.declared.tree.Name.{Name}
-use Rattle.dactl_syntax.specs.declared.tree.Sign.{Sign}
-use Rattle.dactl_syntax.specs.declared.tree.Sign.TheVariants as signs
-use Rattle.dactl_syntax.specs.declared.tree.PatternTree.{PatternTree}
-use Rattle.dactl_syntax.specs.declared.tree.PatternTree.TheOpen.{PatternTree-F}
-use Rattle.dactl_syntax.specs.declared.tree.PatternTree.TheViews.{roll-PatternTree}
-use Rattle.dactl_syntax.specs.declared.tree.PatternTree.TheFolds.{fold-roll-PatternTree, map-PatternTree}
-use Rattle.dactl_syntax.specs.declared.tree.Text.{Text}
-use Rattle.dactl_syntax.specs.Declarations.{named_pattern}
-use Rattle.dactl_syntax.specs.Sight.{Seen, SeenSymbol, SeenPattern, sees}
-use Rattle.dactl_syntax.specs.Uses.{Use, joined, pattern_uses, pattern_uses_level}
-use Rattle.dactl_syntax.specs.Expansion.{Occurrence, is_plus, has_plus, occurrences_in, occurrences_level, at_name, at_variable, join, chain, expansion_level, expansion_by, expansion_of, named_expansion, number_in}
+use Rattle.dactl_meaning.specs.declared.tree.Name.{Name}
+use Rattle.dactl_meaning.specs.declared.tree.Sign.{Sign}
+use Rattle.dactl_meaning.specs.declared.tree.Sign.TheVariants as signs
+use Rattle.dactl_meaning.specs.declared.tree.PatternTree.{PatternTree}
+use Rattle.dactl_meaning.specs.declared.tree.PatternTree.TheOpen.{PatternTree-F}
+use Rattle.dactl_meaning.specs.declared.tree.PatternTree.TheViews.{roll-PatternTree}
+use Rattle.dactl_meaning.specs.declared.tree.PatternTree.TheFolds.{fold-roll-PatternTree, map-PatternTree}
+use Rattle.dactl_meaning.specs.declared.tree.Text.{Text}
+use Rattle.dactl_meaning.specs.Declarations.{named_pattern}
+use Rattle.dactl_meaning.specs.Sight.{Seen, SeenSymbol, SeenPattern, sees}
+use Rattle.dactl_meaning.specs.Uses.{Use, joined, pattern_uses, pattern_uses_level}
+use Rattle.dactl_meaning.specs.Expansion.{Occurrence, is_plus, has_plus, occurrences_in, occurrences_level, at_name, at_variable, join, chain, expansion_level, expansion_by, expansion_of, named_expansion, number_in}
 use Rattle.dactl_rules.proofs.ValidLists.{In, in_left, in_right, in_either}
 use Rattle.dactl_rules.proofs.ValidTests.{both, or_left, or_right, or_false, or_assoc, neither, not_either, not_true, test_below}
 use Rattle.dactl_patterns.proofs.Induction.{Each, EachLink, pattern_induction}
@@ -34,7 +34,9 @@ use Rattle.dactl_patterns.proofs.Layers.{plus_kept}
 pub record Closed (look : List ℕ → Option Seen) (named : ℕ → ℕ → Pat) (variables : Option (List (List ℕ))) (Q : Pat → Type 0) : Type 0 where
   pub any : Q (roll-Pat Pat-F.Any)
   pub int : Q (roll-Pat Pat-F.Int)
+  pub char : Q (roll-Pat Pat-F.Char)
   pub literal : (i : ℤ) → Q (roll-Pat (Pat-F.Literal i))
+  pub letter : (c : ℕ) → Q (roll-Pat (Pat-F.Letter c))
   pub symbol : (w : List ℕ) (f : ℕ) (class : Class) (args : List Pat) → look w ≡ Some (SeenSymbol f class) → Each Q args → Q (roll-Pat (Pat-F.Sym f args))
   pub pattern : (m i : ℕ) → Q (named m i)
   pub variable : (w : List ℕ) (p : Pat) → Q p → Q (at_variable variables w p)
@@ -68,7 +70,9 @@ module _ (look : List ℕ → Option Seen) (named : ℕ → ℕ → Pat) (variab
     expansion_holds = pattern_induction (λ t. Q (expand t)) (record {
       any = opened PatternTree-F.Any closed.any;
       int = opened PatternTree-F.Int closed.int;
+      char = opened PatternTree-F.Char closed.char;
       integer = λ i. opened (PatternTree-F.Integer i) (closed.literal i);
+      letter = λ c. opened (PatternTree-F.Letter c) (closed.letter c);
       symbol = λ name args each. opened (PatternTree-F.Sym name args) (name_holds name.text (look name.text) (map expand args) refl (each_expanded args each));
       variable = λ name. opened (PatternTree-F.Variable name) (closed.variable name.text (roll-Pat Pat-F.Any) closed.any);
       binder = λ name inner h. opened (PatternTree-F.Binder name inner) (closed.variable name.text (expand inner) h);
@@ -106,7 +110,9 @@ symbols_closed : (count : ℕ) (look : List ℕ → Option Seen) (named : ℕ �
 symbols_closed count look named variables below inner = record {
   any = symbols_roll count Pat-F.Any;
   int = symbols_roll count Pat-F.Int;
+  char = symbols_roll count Pat-F.Char;
   literal = λ i. symbols_roll count (Pat-F.Literal i);
+  letter = λ c. symbols_roll count (Pat-F.Letter c);
   symbol = λ w f class args e each. symbols_symbol count f args (below w f class e) each;
   pattern = inner;
   variable = symbols_variable count variables;
@@ -130,7 +136,9 @@ unbinding_closed : (look : List ℕ → Option Seen) (named : ℕ → ℕ → Pa
 unbinding_closed look named inner = record {
   any = λ v. binds_roll v Pat-F.Any;
   int = λ v. binds_roll v Pat-F.Int;
+  char = λ v. binds_roll v Pat-F.Char;
   literal = λ i v. binds_roll v (Pat-F.Literal i);
+  letter = λ c v. binds_roll v (Pat-F.Letter c);
   symbol = λ w f class args e each v. binds_roll v (Pat-F.Sym f args) ∙ unbinding_all v args each;
   pattern = inner;
   variable = λ w p h. h;
@@ -152,7 +160,9 @@ allowing_closed : (look : List ℕ → Option Seen) (named : ℕ → ℕ → Pat
 allowing_closed look named inner = record {
   any = λ b. allows_roll Pat-F.Any b;
   int = λ b. allows_roll Pat-F.Int b;
+  char = λ b. allows_roll Pat-F.Char b;
   literal = λ i b. allows_roll (Pat-F.Literal i) b;
+  letter = λ c b. allows_roll (Pat-F.Letter c) b;
   symbol = λ w f class args e each b. allows_roll (Pat-F.Sym f args) b ∙ allowing_all args b each;
   pattern = inner;
   variable = λ w p h. h;
@@ -216,7 +226,9 @@ allows_more : (p : Pat) → allows p false ≡ true → allows p true ≡ true
 allows_more = pat_induction (λ p. allows p false ≡ true → allows p true ≡ true) (record {
   any = stays_opened Pat-F.Any (λ e. refl);
   int = stays_opened Pat-F.Int (λ e. refl);
+  char = stays_opened Pat-F.Char (λ e. refl);
   literal = λ i. stays_opened (Pat-F.Literal i) (λ e. refl);
+  letter = λ c. stays_opened (Pat-F.Letter c) (λ e. refl);
   symbol = λ f args each. stays_opened (Pat-F.Sym f args) (stays_all args each);
   bind = λ v q ih. stays_opened (Pat-F.Bind v q) (λ e. absurd cc);
   union = λ q s ih1 ih2. stays_opened (Pat-F.Union q s) (λ e. e);
@@ -290,7 +302,9 @@ module _ (look : List ℕ → Option Seen) (named : ℕ → ℕ → Pat) (vs : L
     placed = pattern_induction Placed (record {
       any = placed_opened PatternTree-F.Any (λ choice h. allows_roll Pat-F.Any (not choice));
       int = placed_opened PatternTree-F.Int (λ choice h. allows_roll Pat-F.Int (not choice));
+      char = placed_opened PatternTree-F.Char (λ choice h. allows_roll Pat-F.Char (not choice));
       integer = λ i. placed_opened (PatternTree-F.Integer i) (λ choice h. allows_roll (Pat-F.Literal i) (not choice));
+      letter = λ c. placed_opened (PatternTree-F.Letter c) (λ choice h. allows_roll (Pat-F.Letter c) (not choice));
       symbol = λ name args each. placed_opened (PatternTree-F.Sym name args) (λ choice h. placed_name (look name.text) (map whole args) (not choice) (placed_all args choice each h));
       variable = λ name. placed_opened (PatternTree-F.Variable name) (λ choice h.
           allows_roll (Pat-F.Bind (number_in vs name.text) (roll-Pat Pat-F.Any)) (not choice) ∙ both _ _ (not_true choice (h _ (inl refl))) (allows_roll Pat-F.Any (not choice)));
@@ -373,7 +387,9 @@ module _ (look : List ℕ → Option Seen) (named : ℕ → ℕ → Pat) (vs : L
   told = pattern_induction Told (record {
     any = told_opened PatternTree-F.Any (λ v choice e. absurd (told_none Pat-F.Any v refl e));
     int = told_opened PatternTree-F.Int (λ v choice e. absurd (told_none Pat-F.Int v refl e));
+    char = told_opened PatternTree-F.Char (λ v choice e. absurd (told_none Pat-F.Char v refl e));
     integer = λ i. told_opened (PatternTree-F.Integer i) (λ v choice e. absurd (told_none (Pat-F.Literal i) v refl e));
+    letter = λ c. told_opened (PatternTree-F.Letter c) (λ v choice e. absurd (told_none (Pat-F.Letter c) v refl e));
     symbol = λ name args each. told_opened (PatternTree-F.Sym name args) (λ v choice e. told_all args v choice each (told_name (look name.text) (map full args) v e));
     variable = λ name. told_opened (PatternTree-F.Variable name) (λ v choice e. elim (told_binder v name.text (roll-Pat Pat-F.Any) e) [
       | inl is ↦ (_, inl refl, is)
@@ -436,7 +452,9 @@ module _ (look : List ℕ → Option Seen) (named : ℕ → ℕ → Pat) (vs : L
   bound = pattern_induction Bound (record {
     any = bound_opened PatternTree-F.Any (λ gives choice o h. absurd h);
     int = bound_opened PatternTree-F.Int (λ gives choice o h. absurd h);
+    char = bound_opened PatternTree-F.Char (λ gives choice o h. absurd h);
     integer = λ i. bound_opened (PatternTree-F.Integer i) (λ gives choice o h. absurd h);
+    letter = λ c. bound_opened (PatternTree-F.Letter c) (λ gives choice o h. absurd h);
     symbol = λ name args each. bound_opened (PatternTree-F.Sym name args) (bound_args name args each);
     variable = λ name. bound_opened (PatternTree-F.Variable name) (λ gives choice o h. elim h [ inl e ↦ bound_variable name o (roll-Pat Pat-F.Any) false choice e | inr none ↦ absurd none ]);
     binder = λ name t ih. bound_opened (PatternTree-F.Binder name t) (λ gives choice o h. elim h [

@@ -2,6 +2,7 @@
 use Rattle.std.proofs.Common.{◌≡◌, ◌≢◌, ℕ, zero, suc, ◌+◌, ◌<◌, ◌≤◌, true, List, [], ◌∷◌, ◌++◌, map, length, length-append, slice_get, All, IsTrue, Option, Some, None, refl, sym, ap, subst, arith, inl, inr}
 use Rattle.std.specs.List.{flat_map}
 use Rattle.std.proofs.lemmas.List.{length-map}
+use Rattle.std.proofs.lemmas.List.Elements.{All-nil}
 use Rattle.dactl_base.specs.declared.refusal.Kind.TheVariants as kinds
 use Rattle.dactl_model.specs.declared.program.Op.{Op}
 use Rattle.dactl_model.specs.declared.program.Op.TheVariants as op
@@ -9,29 +10,30 @@ use Rattle.dactl_model.specs.declared.program.Rule.{Rule}
 use Rattle.dactl_model.specs.declared.program.Symbol.{Symbol}
 use Rattle.dactl_model.specs.declared.program.Mention.{Mention}
 use Rattle.dactl_model.specs.declared.program.Mention.TheVariants.{Old, Fresh}
-use Rattle.dactl_model.specs.Programs.{IsValid, IsValidRule, AreFreshNodes, IsMention, arithmetic_rule}
+use Rattle.dactl_model.specs.Programs.{IsValid, IsValidRule, AreFreshNodes, IsMention, AreNarrowNodes, IsNarrowRule, IsNarrowProgram, arithmetic_rule}
 use Rattle.dactl_model.proofs.ArithmeticRules.{valid_arithmetic}
-use Rattle.dactl_syntax.specs.declared.tree.RuleTree.{RuleTree}
-use Rattle.dactl_syntax.specs.declared.tree.TermTree.{TermTree}
-use Rattle.dactl_syntax.specs.declared.tree.Text.{Text}
-use Rattle.dactl_syntax.specs.Faults.{NoFault}
-use Rattle.dactl_syntax.specs.Declarations.{PlacedGroup, PlacedRule, items, groups, rules, symbols}
-use Rattle.dactl_syntax.specs.Sight.{sees}
-use Rattle.dactl_syntax.specs.Uses.{pattern_uses, part_uses}
-use Rattle.dactl_syntax.specs.Expansion.{named_count}
-use Rattle.dactl_syntax.specs.Contractum.{Drawn, term_of_part, term_draws, terms_draw, made_by, denotes, fresh_nodes}
-use Rattle.dactl_syntax.specs.RuleFaults.{contractum_faults, rule_faults}
-use Rattle.dactl_syntax.specs.ScopeFaults.{ScopeFault}
-use Rattle.dactl_syntax.specs.Meaning.{rule_of, rules_from, arithmetic_rules, PlacedInitial, all_initials, node_number, root_of, start_by, program_of, named_faults, faults_of_rules, TreeFault}
-use Rattle.dactl_syntax.specs.Spelling.{is_whole, contracta, IsSpelled}
+use Rattle.dactl_meaning.specs.declared.tree.RuleTree.{RuleTree}
+use Rattle.dactl_meaning.specs.declared.tree.TermTree.{TermTree}
+use Rattle.dactl_meaning.specs.declared.tree.Text.{Text}
+use Rattle.dactl_meaning.specs.Faults.{NoFault}
+use Rattle.dactl_meaning.specs.Declarations.{PlacedGroup, PlacedRule, items, groups, rules, symbols}
+use Rattle.dactl_meaning.specs.Sight.{sees}
+use Rattle.dactl_meaning.specs.Uses.{pattern_uses, part_uses}
+use Rattle.dactl_meaning.specs.Expansion.{named_count}
+use Rattle.dactl_meaning.specs.Contractum.{Drawn, term_of_part, term_draws, terms_draw, made_by, denotes, fresh_nodes}
+use Rattle.dactl_meaning.specs.RuleFaults.{contractum_faults, rule_faults}
+use Rattle.dactl_meaning.specs.ScopeFaults.{ScopeFault}
+use Rattle.dactl_meaning.specs.Meaning.{rule_of, rules_from, arithmetic_rules, PlacedInitial, all_initials, node_number, root_of, start_by, program_of, named_faults, faults_of_rules, TreeFault, is_wide}
+use Rattle.dactl_meaning.specs.Spelling.{is_whole, contracta, is_narrow_pattern, is_narrow_term, all_patterns, IsNarrowText, IsSpelled}
 use Rattle.dactl_rules.specs.Counting.{AreCountable, IsCountable}
 use Rattle.dactl_rules.specs.Validity.{IsValidWithoutFaults}
-use Rattle.dactl_rules.proofs.ValidLists.{In, Pairs, in_left, in_right, in_either, in_map, map_in, in_flat, in_place, in_get, all_in, all_pairs_of, pairs_append, pairs_of_all}
+use Rattle.dactl_rules.proofs.ValidLists.{In, Pairs, in_left, in_right, in_either, in_map, map_in, in_flat, in_place, in_get, all_of, all_in, all_pairs_of, pairs_append, pairs_of_all}
 use Rattle.dactl_rules.proofs.ValidPatterns.{named_plain}
 use Rattle.dactl_rules.proofs.ValidNames.{few_rules, symbols_truths, symbols_few, names_upper, names_distinct, sees_below, class_below, use_seen, given_symbol}
 use Rattle.dactl_rules.proofs.ValidContracta.{Faultless, HasNoFault, has_no_fault, news_fine, stands_fine}
 use Rattle.dactl_rules.proofs.ValidUses.{group_uses, in_rules, parts_uses, initial_uses, no_initials}
 use Rattle.dactl_rules.proofs.ValidRules.{Told, rule_valid}
+use Rattle.dactl_rules.proofs.ValidNarrow.{arithmetic_narrow, rule_narrow, news_narrow}
 
 -- ---- rules by their groups
 
@@ -103,7 +105,7 @@ module _ (text : Text) (spelled : IsSpelled text) (counted : IsCountable text) (
   -- ---- the rules
 
   rule_faultless : (p : PlacedRule) → In (rules text) p → Faultless (rule_faults text p.owner p.rule)
-  rule_faultless p h r k = in_faults r (in_left _ (flat_map (λ (i : PlacedInitial). contractum_faults (sees text i.owner) [] i.terms) (all_initials text)) r
+  rule_faultless p h r k = in_faults r (in_left _ (flat_map (λ (i : PlacedInitial). contractum_faults (sees text i.owner) [] [] i.terms) (all_initials text)) r
       (in_right (flat_map (named_faults text) (items text)) _ r (in_flat (λ (q : PlacedRule). rule_faults text q.owner q.rule) (rules text) p r h k)))
 
   told : (g : PlacedGroup) (r : RuleTree) → In (groups text) g → In g.group.rules r → Told text g.owner r
@@ -140,13 +142,13 @@ module _ (text : Text) (spelled : IsSpelled text) (counted : IsCountable text) (
 
   -- ---- the start
 
-  initial_faultless : (i : PlacedInitial) → In (all_initials text) i → Faultless (contractum_faults (sees text i.owner) [] i.terms)
+  initial_faultless : (i : PlacedInitial) → In (all_initials text) i → Faultless (contractum_faults (sees text i.owner) [] [] i.terms)
   initial_faultless i h r k = in_faults r (in_right (flat_map (named_faults text) (items text) ++ flat_map (λ (q : PlacedRule). rule_faults text q.owner q.rule) (rules text)) _ r
-      (in_flat (λ (j : PlacedInitial). contractum_faults (sees text j.owner) [] j.terms) (all_initials text) i r h k))
+      (in_flat (λ (j : PlacedInitial). contractum_faults (sees text j.owner) [] [] j.terms) (all_initials text) i r h k))
 
   module _ (i : PlacedInitial) (h : In (all_initials text) i) where
     sound : HasNoFault (sees text i.owner) [] i.terms
-    sound = has_no_fault (sees text i.owner) [] i.terms (initial_faultless i h)
+    sound = has_no_fault (sees text i.owner) [] [] i.terms (initial_faultless i h)
 
     terms_in : In (contracta text) i.terms
     terms_in = in_right (map (λ (p : PlacedRule). map term_of_part p.rule.parts) (rules text)) (map (λ (j : PlacedInitial). j.terms) (all_initials text)) i.terms (in_map (λ (j : PlacedInitial). j.terms) (all_initials text) i h)
@@ -182,6 +184,41 @@ module _ (text : Text) (spelled : IsSpelled text) (counted : IsCountable text) (
   has_initial : ¬ (all_initials text ≡ [])
   has_initial e = scope (record { kind = kinds.NoInitial; place = record { byte = text.length } }) (refl, no_initials text e)
 
+  -- ---- a narrow text
+
+  module _ (narrow : IsNarrowText text) where
+    arithmetic_all : (rule : Rule) → In arithmetic_rules rule → IsNarrowRule rule
+    arithmetic_all rule (inl e) = subst IsNarrowRule e (arithmetic_narrow 0 op.Add)
+    arithmetic_all rule (inr (inl e)) = subst IsNarrowRule e (arithmetic_narrow 1 op.Sub)
+    arithmetic_all rule (inr (inr (inl e))) = subst IsNarrowRule e (arithmetic_narrow 2 op.Mul)
+    arithmetic_all rule (inr (inr (inr (inl e)))) = subst IsNarrowRule e (arithmetic_narrow 3 op.Eq)
+    arithmetic_all rule (inr (inr (inr (inr (inl e))))) = subst IsNarrowRule e (arithmetic_narrow 4 op.Lt)
+    arithmetic_all rule (inr (inr (inr (inr (inr none))))) = absurd none
+
+    narrow_terms : (terms : List TermTree) → In (contracta text) terms → (t : TermTree) → In terms t → is_narrow_term t ≡ true
+    narrow_terms terms h = all_in (λ t. IsTrue (is_narrow_term t)) terms (all_in (λ terms. All (λ t. IsTrue (is_narrow_term t)) terms) (contracta text) narrow.terms terms h)
+
+    written_narrow : (rule : Rule) → In (rules_from text 5 (groups text)) rule → IsNarrowRule rule
+    written_narrow rule h =
+        let r = rule_from text 5 (groups text) rule h in
+        let here = in_rules text r.0 r.1 r.3 r.4 in
+        subst IsNarrowRule (sym r.7) (rule_narrow text narrow r.0.owner r.2 r.1
+        (all_in (λ p. IsTrue (is_narrow_pattern p)) (all_patterns text) narrow.patterns r.1.pattern (in_left _ _ r.1.pattern (in_map (λ (p : PlacedRule). p.rule.pattern) (rules text) (placed_rule r.0.owner r.1) here)))
+        (narrow_terms (map term_of_part r.1.parts) (in_left _ _ (map term_of_part r.1.parts) (in_map (λ (p : PlacedRule). map term_of_part p.rule.parts) (rules text) (placed_rule r.0.owner r.1) here))))
+
+    start_narrow : (is : List PlacedInitial) → ((i : PlacedInitial) → In is i → In (all_initials text) i) → AreNarrowNodes (start_by text is).fresh
+    start_narrow [] h = All-nil _
+    start_narrow (i ∷ is) h = news_narrow (sees text i.owner) [] i.terms (narrow_terms i.terms (terms_in i (h i (inl refl))))
+
+    program_narrow : IsNarrowProgram (program_of text)
+    program_narrow = record {
+      rules = all_of IsNarrowRule (arithmetic_rules ++ rules_from text 5 (groups text)) (λ rule h. elim (in_either arithmetic_rules (rules_from text 5 (groups text)) rule h) [
+        | inl arithmetic ↦ arithmetic_all rule arithmetic
+        | inr written ↦ written_narrow rule written
+      ]);
+      start = start_narrow (all_initials text) (λ i h. h);
+    }
+
   -- ---- the program
 
   pub program_valid : IsValid (program_of text)
@@ -189,7 +226,7 @@ module _ (text : Text) (spelled : IsSpelled text) (counted : IsCountable text) (
       let start = start_fine (all_initials text) has_initial starts in
       record {
         truths = symbols_truths text;
-        names = names_upper text spelled.names;
+        names = names_upper (is_wide text) text spelled.names;
         distinct = all_pairs_of (λ (a b : Symbol). a.name ≢ b.name) (symbols text) (names_distinct text scope);
         add = refl;
         sub = refl;
@@ -201,6 +238,7 @@ module _ (text : Text) (spelled : IsSpelled text) (counted : IsCountable text) (
         start = start.0;
         root = start.1;
         few_symbols = symbols_few text scope;
+        narrow = λ narrow. program_narrow (spelled.narrow narrow);
         few_rules = omega (arith, as_many text 5 (groups text), few_rules text scope);
       }
 

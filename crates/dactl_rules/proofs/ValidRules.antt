@@ -5,27 +5,28 @@ use Rattle.dactl_base.specs.declared.refusal.Kind.TheVariants as kinds
 use Rattle.dactl_model.specs.declared.program.Class.{Class}
 use Rattle.dactl_model.specs.declared.program.Class.TheVariants as classes
 use Rattle.dactl_model.specs.declared.program.Pat.{Pat}
-use Rattle.dactl_model.specs.Binders.{binds, head, binders_in_place}
-use Rattle.dactl_model.specs.Programs.{IsValidRule, IsWritten}
-use Rattle.dactl_syntax.specs.declared.tree.Name.{Name}
-use Rattle.dactl_syntax.specs.declared.tree.TermTree.{TermTree}
-use Rattle.dactl_syntax.specs.declared.tree.RuleTree.{RuleTree}
-use Rattle.dactl_syntax.specs.declared.tree.Text.{Text}
-use Rattle.dactl_syntax.specs.Declarations.{symbols}
-use Rattle.dactl_syntax.specs.Sight.{sees, class_for}
-use Rattle.dactl_syntax.specs.Uses.{Use, pattern_uses, part_uses, term_uses, rule_uses}
-use Rattle.dactl_syntax.specs.Expansion.{Occurrence, is_among, number_in, occurrences, variables_of, root_names, named_count, named_expansion, rule_expansion, pattern_expansion}
-use Rattle.dactl_syntax.specs.Contractum.{term_of_part, made_by, fresh_nodes, moves_of, wakes_of}
-use Rattle.dactl_syntax.specs.RuleFaults.{again, place_of, binders_in_choice, named_twice_in_pattern, wide_in_pattern, at_if, is_too_wide, lefts_of, variable_lefts, unbound_lefts, redirected_twice, not_overwritable, head_is, root_not_rewritable, is_class, each_at, contractum_faults, pattern_faults, left_faults, rule_faults}
-use Rattle.dactl_syntax.specs.Meaning.{head_symbol, rule_of}
-use Rattle.dactl_syntax.specs.Spelling.{is_whole}
+use Rattle.dactl_model.specs.Binders.{binds, head, binders_in_place, binds_root}
+use Rattle.dactl_model.specs.Programs.{IsValidRule, IsWritten, IsBesideRoot, MaySuspend}
+use Rattle.dactl_meaning.specs.declared.tree.Name.{Name}
+use Rattle.dactl_meaning.specs.declared.tree.TermTree.{TermTree}
+use Rattle.dactl_meaning.specs.declared.tree.RuleTree.{RuleTree}
+use Rattle.dactl_meaning.specs.declared.tree.Text.{Text}
+use Rattle.dactl_meaning.specs.Declarations.{symbols}
+use Rattle.dactl_meaning.specs.Sight.{sees, class_for}
+use Rattle.dactl_meaning.specs.Uses.{Use, pattern_uses, part_uses, term_uses, rule_uses}
+use Rattle.dactl_meaning.specs.Expansion.{Occurrence, is_among, number_in, occurrences, variables_of, root_names, named_count, named_expansion, rule_expansion, pattern_expansion}
+use Rattle.dactl_meaning.specs.Contractum.{term_of_part, made_by, fresh_nodes, moves_of, wakes_of}
+use Rattle.dactl_meaning.specs.RuleFaults.{again, place_of, binders_in_choice, named_twice_in_pattern, wide_in_pattern, at_if, is_too_wide, lefts_of, variable_lefts, unbound_lefts, redirects_root, suspendable, redirected_twice, not_overwritable, head_is, root_not_rewritable, is_class, each_at, contractum_faults, pattern_faults, left_faults, rule_faults}
+use Rattle.dactl_meaning.specs.Meaning.{head_symbol, rule_of}
+use Rattle.dactl_meaning.specs.Spelling.{is_whole}
 use Rattle.dactl_rules.specs.Counting.{AreCountable}
 use Rattle.dactl_rules.proofs.ValidLists.{In, Pairs, in_left, in_map, map_in, filter_every}
-use Rattle.dactl_rules.proofs.ValidTests.{neither_right, is_true, not_above}
+use Rattle.dactl_rules.proofs.ValidTests.{neither_left, neither_right, is_true, not_above}
 use Rattle.dactl_rules.proofs.ValidPatterns.{SeesBelow, SeesSymbol, Plain, symbols_expanded, placed, told, bound}
 use Rattle.dactl_rules.proofs.ValidVariables.{among_in, in_once, once_in, once_distinct, number_below, number_of_some}
 use Rattle.dactl_rules.proofs.ValidContracta.{Faultless, NoPlace, faultless_left, faultless_right, no_place, none_passes, HasNoFault, has_no_fault, IsSeen, news_fine, wakes_fine, stands_fine}
-use Rattle.dactl_rules.proofs.ValidMoves.{again_none, all_once, all_end}
+use Rattle.dactl_rules.proofs.ValidMoves.{again_none, all_once, all_beside, all_end}
+use Rattle.dactl_rules.proofs.ValidSuspensions.{beside_root, suspend_low, root_kept, none_of}
 
 -- ---- the faults that a rule has not
 
@@ -47,7 +48,7 @@ fine_rule : (text : Text) (m : ℕ) (r : RuleTree) → Faultless (rule_faults te
 fine_rule text m r h =
     let at_root = each_at kinds.RootNotRewritable (root_not_rewritable (rewritable text m) (rule_expansion text m r.pattern) r) in
     let in_pattern = pattern_faults text m false r.place.byte r.pattern in
-    let in_terms = contractum_faults (sees text m) (variables_of r.pattern) (map term_of_part r.parts) in
+    let in_terms = contractum_faults (sees text m) (variables_of r.pattern) (suspendable r) (map term_of_part r.parts) in
     let in_lefts = left_faults text m r in
     let binders = each_at kinds.BinderInChoice (binders_in_choice false r.pattern) in
     let wide = each_at kinds.TooWide (wide_in_pattern r.pattern) in
@@ -66,7 +67,7 @@ fine_rule text m r h =
       root = no_place kinds.RootNotRewritable (root_not_rewritable (rewritable text m) (rule_expansion text m r.pattern) r) (faultless_left at_root in_pattern to_pattern);
       binders = no_place kinds.BinderInChoice (binders_in_choice false r.pattern) (faultless_left binders wide (faultless_left (binders ++ wide) whole to_whole));
       narrow = no_place kinds.TooWide (at_if (is_too_wide false (pattern_expansion text m r.pattern) r.pattern) r.place.byte) (faultless_right (binders ++ wide) whole to_whole);
-      contractum = has_no_fault (sees text m) (variables_of r.pattern) (map term_of_part r.parts) (faultless_right (at_root ++ in_pattern) in_terms to_terms);
+      contractum = has_no_fault (sees text m) (variables_of r.pattern) (suspendable r) (map term_of_part r.parts) (faultless_right (at_root ++ in_pattern) in_terms to_terms);
       lefts = no_place kinds.Unbound (unbound_lefts r) (faultless_left unbound redirected to_redirected);
       once = no_place kinds.RedirectedTwice (redirected_twice r) (faultless_right unbound redirected to_redirected);
     }
@@ -168,6 +169,19 @@ module _ (text : Text) (m : ℕ) (r : RuleTree) (is : Told text m r) where
     woken = wakes_fine (sees text m) vs terms count fine.contractum is.below is.whole is.seen;
   }
 
+  -- a left side that is no name of the root does not stand for it
+  left_beside : redirects_root r ≡ false → (n : Name) → In (lefts_of r.parts) n → binds_root (number_in vs n.text) pattern ≡ false
+  left_beside kept n h = beside_root (sees text m) (named_expansion text (named_count text)) vs (λ i k v. (is.named i k).unbinding v) r.pattern n.text is_variable (among_in vs n.text (known_left n h))
+      (none_of (λ (z : Name). is_among (root_names r.pattern) z.text) (lefts_of r.parts) (neither_right r.redirects _ kept) n h)
+
+  suspends : MaySuspend pattern (rule_of text m 0 r).body
+  suspends = (
+    suspend_low (suspendable r) terms,
+    λ some.
+        let kept = root_kept (redirects_root r) (root_names r.pattern) terms some in
+        all_beside vs (made_by terms) r.parts (λ n h. among_in vs n.text (known_left n h)) left_once r.redirects (IsBesideRoot pattern) (neither_left r.redirects _ kept) (left_beside kept),
+  )
+
   pub rule_valid : (group number : ℕ) → group + 1 < 2 ^ 31 → IsValidRule count number (rule_of text m group r)
   rule_valid group number low = record {
     symbol = symbol_in;
@@ -179,4 +193,5 @@ module _ (text : Text) (m : ℕ) (r : RuleTree) (is : Told text m r) where
     body = written;
     group = low;
     delta = λ d. absurd d;
+    suspends = suspends;
   }

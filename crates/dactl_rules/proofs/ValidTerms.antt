@@ -3,17 +3,17 @@ use Rattle.std.proofs.Common.{◌≡◌, ℕ, ◌+◌, ◌<◌, ◌≤◌, Bool,
 use Rattle.std.specs.List.{flat_map, list_all}
 use Rattle.dactl_model.proofs.Unique.{left_true, right_true}
 use Rattle.dactl_base.specs.declared.refusal.Place.{Place}
-use Rattle.dactl_syntax.specs.declared.tree.Name.{Name}
-use Rattle.dactl_syntax.specs.declared.tree.Marks.{Marks}
-use Rattle.dactl_syntax.specs.declared.tree.NodeTree.{NodeTree}
-use Rattle.dactl_syntax.specs.declared.tree.ArgTree.{ArgTree}
-use Rattle.dactl_syntax.specs.declared.tree.TermTree.{TermTree}
-use Rattle.dactl_syntax.specs.declared.tree.NodeTree.TheOpen.{NodeTree-F, ArgTree-F, TermTree-F}
-use Rattle.dactl_syntax.specs.declared.tree.NodeTree.TheViews.{roll-NodeTree, roll-ArgTree, roll-TermTree}
-use Rattle.dactl_syntax.specs.declared.tree.NodeTree.TheFolds.{fold-NodeTree, fold-ArgTree, fold-roll-NodeTree, fold-roll-ArgTree, fold-roll-TermTree, map-NodeTree, map-TermTree}
-use Rattle.dactl_syntax.specs.Uses.{Use, joined, node_uses_level, arg_uses_level, term_uses_level, term_uses}
-use Rattle.dactl_syntax.specs.Contractum.{Target, Made, Named, Core, Number, Of, Sketch, Drawn, DrawnArc, drawn_from, node_drawn, arg_drawn, term_drawn, term_draws, terms_draw, MentionTree, node_mentions, arg_mentions, term_mentions, mentions_in}
-use Rattle.dactl_syntax.specs.Spelling.{is_counted, node_whole, arg_whole, term_whole, is_whole}
+use Rattle.dactl_meaning.specs.declared.tree.Name.{Name}
+use Rattle.dactl_meaning.specs.declared.tree.Marks.{Marks}
+use Rattle.dactl_meaning.specs.declared.tree.NodeTree.{NodeTree}
+use Rattle.dactl_meaning.specs.declared.tree.ArgTree.{ArgTree}
+use Rattle.dactl_meaning.specs.declared.tree.TermTree.{TermTree}
+use Rattle.dactl_meaning.specs.declared.tree.NodeTree.TheOpen.{NodeTree-F, ArgTree-F, TermTree-F}
+use Rattle.dactl_meaning.specs.declared.tree.NodeTree.TheViews.{roll-NodeTree, roll-ArgTree, roll-TermTree}
+use Rattle.dactl_meaning.specs.declared.tree.NodeTree.TheFolds.{fold-NodeTree, fold-ArgTree, fold-roll-NodeTree, fold-roll-ArgTree, fold-roll-TermTree, map-NodeTree, map-TermTree}
+use Rattle.dactl_meaning.specs.Uses.{Use, joined, node_uses_level, arg_uses_level, term_uses_level, term_uses}
+use Rattle.dactl_meaning.specs.Contractum.{Target, Made, Named, Core, Number, Character, Of, Sketch, Drawn, DrawnArc, drawn_from, node_drawn, arg_drawn, term_drawn, term_draws, terms_draw, MentionTree, node_mentions, arg_mentions, term_mentions, mentions_in}
+use Rattle.dactl_meaning.specs.Spelling.{is_counted, node_whole, arg_whole, term_whole, is_whole}
 use Rattle.dactl_rules.proofs.ValidLists.{In, in_left, in_right, map_in, flat_in}
 use Rattle.dactl_patterns.proofs.Induction.{Each}
 use Rattle.dactl_rules.proofs.ValidTrees.{term_induction}
@@ -23,9 +23,10 @@ abbrev pub Within : ℕ → (List ℕ → Type 0) → Target → Type 0
 Within b Known (Made k) = k < b
 Within b Known (Named w) = Known w
 
--- an integer has no arcs, and a symbol's name is used
+-- an integer or a character has no arcs, and a symbol's name is used
 abbrev pub IsCore : (Name → Type 0) → Core → List (Bool × Target) → Type 0
 IsCore Used (Number value) arcs = arcs ≡ []
+IsCore Used (Character value) arcs = arcs ≡ []
 IsCore Used (Of name) arcs = Used name
 
 pub record IsSketch (b : ℕ) (Known : List ℕ → Type 0) (Used : Name → Type 0) (s : Sketch) : Type 0 where
@@ -150,6 +151,12 @@ module _ (b : ℕ) (Known : List ℕ → Type 0) (Used : Name → Type 0) where
     made = λ s h. elim h [ inl e ↦ subst (IsSketch b Known Used) e (record { arcs = λ a i. absurd i; core = refl; marks = counted }) | inr none ↦ absurd none ];
   })
 
+  letter_drawn : (value : ℕ) (place : Place) → IsNode (roll-NodeTree (NodeTree-F.Letter value place))
+  letter_drawn value place = node_opened (NodeTree-F.Letter value place) (λ k name m counted fits given. record {
+    target = omega (arith, fits);
+    made = λ s h. elim h [ inl e ↦ subst (IsSketch b Known Used) e (record { arcs = λ a i. absurd i; core = refl; marks = counted }) | inr none ↦ absurd none ];
+  })
+
   symbol_drawn : (name : Name) (args : List ArgTree) → Each IsArg args → IsNode (roll-NodeTree (NodeTree-F.Sym name args))
   symbol_drawn symbol args each = node_opened (NodeTree-F.Sym symbol args) (λ k name m counted fits given.
       let ds = drawn_from (k + 1) (map arg_draws args) in
@@ -175,7 +182,7 @@ module _ (b : ℕ) (Known : List ℕ → Type 0) (Used : Name → Type 0) where
   node_term marks (Some name) node ih = term_opened (record { marks = marks; name = Some name; node = Some node }) (λ k fits given. ih k (Some name) marks (left_true _ _ given.0) fits (right_true (is_counted marks) _ given.0, given.1, given.2))
 
   term_is_drawn : (t : TermTree) → IsTerm t
-  term_is_drawn = term_induction IsNode IsArg IsTerm (record { integer = integer_drawn; symbol = symbol_drawn; arg = arg_opened; bare = bare_drawn; made = node_term })
+  term_is_drawn = term_induction IsNode IsArg IsTerm (record { integer = integer_drawn; letter = letter_drawn; symbol = symbol_drawn; arg = arg_opened; bare = bare_drawn; made = node_term })
 
   -- terms one after another
   pub terms_drawn : (terms : List TermTree) (k : ℕ) → k + length (flat_map (λ (d : Drawn). d.made) (terms_draw k terms)) ≤ b

@@ -1,19 +1,20 @@
 -- Induction over the trees of terms.
-use Rattle.std.proofs.Common.{Bool, List, [], ◌∷◌, map, ℤ, Option, Some, None, subst}
+use Rattle.std.proofs.Common.{ℕ, Bool, List, [], ◌∷◌, map, ℤ, Option, Some, None, subst}
 use Rattle.dactl_base.specs.declared.refusal.Place.{Place}
-use Rattle.dactl_syntax.specs.declared.tree.Name.{Name}
-use Rattle.dactl_syntax.specs.declared.tree.Marks.{Marks}
-use Rattle.dactl_syntax.specs.declared.tree.NodeTree.{NodeTree}
-use Rattle.dactl_syntax.specs.declared.tree.ArgTree.{ArgTree}
-use Rattle.dactl_syntax.specs.declared.tree.TermTree.{TermTree}
-use Rattle.dactl_syntax.specs.declared.tree.NodeTree.TheOpen.{NodeTree-F, ArgTree-F, TermTree-F}
-use Rattle.dactl_syntax.specs.declared.tree.NodeTree.TheViews.{roll-NodeTree, roll-ArgTree, roll-TermTree}
-use Rattle.dactl_syntax.specs.declared.tree.NodeTree.TheFolds.{ind-TermTree, map-NodeTree, map-ArgTree, map-TermTree}
+use Rattle.dactl_meaning.specs.declared.tree.Name.{Name}
+use Rattle.dactl_meaning.specs.declared.tree.Marks.{Marks}
+use Rattle.dactl_meaning.specs.declared.tree.NodeTree.{NodeTree}
+use Rattle.dactl_meaning.specs.declared.tree.ArgTree.{ArgTree}
+use Rattle.dactl_meaning.specs.declared.tree.TermTree.{TermTree}
+use Rattle.dactl_meaning.specs.declared.tree.NodeTree.TheOpen.{NodeTree-F, ArgTree-F, TermTree-F}
+use Rattle.dactl_meaning.specs.declared.tree.NodeTree.TheViews.{roll-NodeTree, roll-ArgTree, roll-TermTree}
+use Rattle.dactl_meaning.specs.declared.tree.NodeTree.TheFolds.{ind-TermTree, map-NodeTree, map-ArgTree, map-TermTree}
 use Rattle.dactl_patterns.proofs.Induction.{Each, each_of}
 
 -- what an induction over nodes, arguments and terms owes
 pub record TermCases (N : NodeTree → Type 0) (A : ArgTree → Type 0) (T : TermTree → Type 0) : Type 0 where
   pub integer : (value : ℤ) (place : Place) → N (roll-NodeTree (NodeTree-F.Integer value place))
+  pub letter : (value : ℕ) (place : Place) → N (roll-NodeTree (NodeTree-F.Letter value place))
   pub symbol : (name : Name) (args : List ArgTree) → Each A args → N (roll-NodeTree (NodeTree-F.Sym name args))
   pub arg : (waits : Bool) (term : TermTree) → T term → A (roll-ArgTree (record { waits = waits; term = term }))
   pub bare : (marks : Marks) (name : Option Name) → T (roll-TermTree (record { marks = marks; name = name; node = None }))
@@ -31,6 +32,7 @@ module _ (N : NodeTree → Type 0) (A : ArgTree → Type 0) (T : TermTree → Ty
 
   node_level : (y : NodeTree-F SomeNode SomeArg SomeTerm) → N (roll-NodeTree (map-NodeTree SomeNode SomeArg SomeTerm NodeTree ArgTree TermTree (λ e. e.0) (λ e. e.0) (λ e. e.0) y))
   node_level (NodeTree-F.Integer value place) = cases.integer value place
+  node_level (NodeTree-F.Letter value place) = cases.letter value place
   node_level (NodeTree-F.Sym name args) = cases.symbol name (map (λ e. e.0) args) (each_of A args)
 
   arg_level : (y : ArgTree-F SomeNode SomeArg SomeTerm) → A (roll-ArgTree (map-ArgTree SomeNode SomeArg SomeTerm NodeTree ArgTree TermTree (λ e. e.0) (λ e. e.0) (λ e. e.0) y))

@@ -1,18 +1,18 @@
 -- What a rule, a named pattern or an INITIAL uses, the text uses.
 use Rattle.std.proofs.Common.{◌≡◌, ℕ, List, [], ◌∷◌, ◌++◌, map, refl, sym, ap, subst, ◌∙◌, inl, inr}
 use Rattle.std.specs.List.{flat_map}
-use Rattle.dactl_syntax.specs.declared.tree.RuleTree.{RuleTree}
-use Rattle.dactl_syntax.specs.declared.tree.Group.{Group}
-use Rattle.dactl_syntax.specs.declared.tree.Part.{Part}
-use Rattle.dactl_syntax.specs.declared.tree.Part.TheVariants as parts
-use Rattle.dactl_syntax.specs.declared.tree.Item.{Item}
-use Rattle.dactl_syntax.specs.declared.tree.Item.TheVariants as item
-use Rattle.dactl_syntax.specs.declared.tree.Text.{Text}
-use Rattle.dactl_syntax.specs.Declarations.{Placed, PlacedGroup, items, item_groups, groups, rules}
-use Rattle.dactl_syntax.specs.Uses.{Use, term_uses, part_uses, rule_uses, item_uses, uses}
-use Rattle.dactl_syntax.specs.Contractum.{term_of_part}
-use Rattle.dactl_syntax.specs.ScopeFaults.{item_initials, initials}
-use Rattle.dactl_syntax.specs.Meaning.{PlacedInitial, item_initial, all_initials}
+use Rattle.dactl_meaning.specs.declared.tree.RuleTree.{RuleTree}
+use Rattle.dactl_meaning.specs.declared.tree.Group.{Group}
+use Rattle.dactl_meaning.specs.declared.tree.Part.{Part}
+use Rattle.dactl_meaning.specs.declared.tree.Part.TheVariants as parts
+use Rattle.dactl_meaning.specs.declared.tree.Item.{Item}
+use Rattle.dactl_meaning.specs.declared.tree.Item.TheVariants as item
+use Rattle.dactl_meaning.specs.declared.tree.Text.{Text}
+use Rattle.dactl_meaning.specs.Declarations.{Placed, PlacedGroup, items, item_groups, groups, rules}
+use Rattle.dactl_meaning.specs.Uses.{Use, term_uses, part_uses, rule_uses, item_uses, uses}
+use Rattle.dactl_meaning.specs.Contractum.{term_of_part}
+use Rattle.dactl_meaning.specs.ScopeFaults.{item_initials, initials}
+use Rattle.dactl_meaning.specs.Meaning.{PlacedInitial, item_initial, all_initials}
 use Rattle.dactl_rules.proofs.ValidLists.{In, in_map, map_in, in_flat, flat_in}
 
 -- a group of an item: the item uses what its rules use

@@ -1,7 +1,7 @@
 -- Names each once, and their numbers.
 use Rattle.std.proofs.Common.{◌≡◌, ◌≢◌, ℕ, zero, suc, ◌+◌, ◌<◌, true, false, not, ◌||◌, List, [], ◌∷◌, length, refl, sym, ap, subst, ◌∙◌, arith, inl, inr, bytes_eq}
 use Rattle.std.proofs.lemmas.Slice.Eq.{bytes_eq-Decides}
-use Rattle.dactl_syntax.specs.Expansion.{is_among, each_once, number_in}
+use Rattle.dactl_meaning.specs.Expansion.{is_among, each_once, number_in}
 use Rattle.dactl_rules.proofs.ValidTests.{is_false}
 use Rattle.dactl_rules.proofs.ValidLists.{In, Pairs, in_filter, filter_in, pairs_filter}
 

@@ -1,5 +1,5 @@
 -- What the code finds of a whole text is what the definitions say.
-use Rattle.std.proofs.Common.{◌≡◌, ℕ, ◌+◌, ◌<◌, ◌⊎◌, inl, inr, List, [], ◌∷◌, ◌++◌, map, length, take, get_or, All, Contains, Option, Some, None, Result, Ok, Err, refl, sym, ap, ◌∙◌, subst, arith}
+use Rattle.std.proofs.Common.{◌≡◌, ℕ, ◌+◌, ◌<◌, ◌⊎◌, inl, inr, Bool, List, [], ◌∷◌, ◌++◌, map, length, take, get_or, All, Contains, Option, Some, None, Result, Ok, Err, refl, sym, ap, ◌∙◌, subst, arith}
 use Rattle.std.specs.List.{flat_map}
 use Rattle.std.proofs.lemmas.List.{append-nil, map-append}
 use Rattle.std.proofs.lemmas.List.Elements.{All-append, All-from_recursion}
@@ -12,19 +12,19 @@ use Rattle.dactl_model.specs.declared.program.Rule.{Rule}
 use Rattle.dactl_model.specs.declared.program.Start.{Start}
 use Rattle.dactl_model.specs.Programs.{IsValid}
 use Rattle.dactl_base.specs.declared.refusal.Place.{Place}
-use Rattle.dactl_syntax.specs.declared.tree.Group.{Group}
-use Rattle.dactl_syntax.specs.declared.tree.Item.{Item}
-use Rattle.dactl_syntax.specs.declared.tree.Item.TheVariants as item
-use Rattle.dactl_syntax.specs.declared.tree.RuleTree.{RuleTree}
-use Rattle.dactl_syntax.specs.declared.tree.TermTree.{TermTree}
-use Rattle.dactl_syntax.specs.declared.tree.Text.{Text}
-use Rattle.dactl_syntax.specs.Contractum.{Sketch, Drawn, term_of_part, term_draws, terms_draw, made_by, denotes}
-use Rattle.dactl_syntax.specs.Declarations.{Placed, PlacedGroup, PlacedRule, item_groups, items, groups, rules, symbols}
-use Rattle.dactl_syntax.specs.Faults.{phase, Precedes, NoFault, IsLeastFault, IsDueFault}
-use Rattle.dactl_syntax.specs.Meaning.{PlacedInitial, item_initial, all_initials, node_number, root_of, arithmetic_rules, rules_from, start_by, named_faults, faults_of_rules, CycleFault, RuleFault, TreeFault, program_of}
-use Rattle.dactl_syntax.specs.RuleFaults.{contractum_faults, rule_faults}
-use Rattle.dactl_syntax.specs.ScopeFaults.{ScopeFault}
-use Rattle.dactl_syntax.specs.Sight.{Seen, sees}
+use Rattle.dactl_meaning.specs.declared.tree.Group.{Group}
+use Rattle.dactl_meaning.specs.declared.tree.Item.{Item}
+use Rattle.dactl_meaning.specs.declared.tree.Item.TheVariants as item
+use Rattle.dactl_meaning.specs.declared.tree.RuleTree.{RuleTree}
+use Rattle.dactl_meaning.specs.declared.tree.TermTree.{TermTree}
+use Rattle.dactl_meaning.specs.declared.tree.Text.{Text}
+use Rattle.dactl_meaning.specs.Contractum.{Sketch, Drawn, term_of_part, term_draws, terms_draw, made_by, denotes}
+use Rattle.dactl_meaning.specs.Declarations.{Placed, PlacedGroup, PlacedRule, item_groups, items, groups, rules, symbols}
+use Rattle.dactl_meaning.specs.Faults.{phase, Precedes, NoFault, IsLeastFault, IsDueFault}
+use Rattle.dactl_meaning.specs.Meaning.{PlacedInitial, item_initial, all_initials, node_number, root_of, arithmetic_rules, rules_from, start_by, named_faults, faults_of_rules, CycleFault, RuleFault, TreeFault, program_of, is_wide}
+use Rattle.dactl_meaning.specs.RuleFaults.{contractum_faults, rule_faults}
+use Rattle.dactl_meaning.specs.ScopeFaults.{ScopeFault}
+use Rattle.dactl_meaning.specs.Sight.{Seen, sees}
 use Rattle.dactl_symbols.specs.Least.{sooner, TellsLeast}
 use Rattle.dactl_symbols.specs.Scoping.{seen_in, symbols_in, IsScopesOf}
 use Rattle.dactl_symbols.specs.Sights.{Sights}
@@ -33,7 +33,7 @@ use Rattle.dactl_rules.specs.Counting.{AreCountable, IsCountable}
 use Rattle.dactl_rules.specs.Drafts.{IsDraft}
 use Rattle.dactl_rules.specs.Initials.{initial_faults, initials_in, root_in, start_in, AreRead}
 use Rattle.dactl_rules.specs.RuleLists.{HasRules, terms_of, groups_in, faults_in, contracta_in}
-use Rattle.dactl_syntax.specs.Spelling.{IsSpelled, contracta}
+use Rattle.dactl_meaning.specs.Spelling.{IsSpelled, contracta}
 use Rattle.dactl_rules.proofs.Late.{rule_phase, cycle_phase}
 use Rattle.dactl_rules.proofs.Least.{tells_append}
 use Rattle.dactl_rules.proofs.Listings.{items_more}
@@ -45,15 +45,15 @@ use Rattle.dactl_rules.proofs.ValidPrograms.{valid_without_faults}
 pub read_none : (look : ℕ → List ℕ → Option Seen) → AreRead look [] None
 read_none look = record { tells = none_told; counted = All-from_recursion AreCountable [] tt }
 
-pub read_one : (look : ℕ → List ℕ → Option Seen) (i : PlacedInitial) (o : Option Refusal) → TellsLeast (Contains (contractum_faults (look i.owner) [] i.terms)) o → AreCountable i.terms → AreRead look (i ∷ []) o
+pub read_one : (look : ℕ → List ℕ → Option Seen) (i : PlacedInitial) (o : Option Refusal) → TellsLeast (Contains (contractum_faults (look i.owner) [] [] i.terms)) o → AreCountable i.terms → AreRead look (i ∷ []) o
 read_one look i o tells counts = record {
-  tells = subst (λ (z : List Refusal). TellsLeast (Contains z) o) (sym (append-nil (contractum_faults (look i.owner) [] i.terms))) tells;
+  tells = subst (λ (z : List Refusal). TellsLeast (Contains z) o) (sym (append-nil (contractum_faults (look i.owner) [] [] i.terms))) tells;
   counted = All-from_recursion AreCountable (i.terms ∷ []) (counts, tt);
 }
 
 read_then : (look : ℕ → List ℕ → Option Seen) (xs ys : List PlacedInitial) (a b : Option Refusal) → AreRead look xs a → AreRead look ys b → AreRead look (xs ++ ys) (sooner a b)
 read_then look xs ys a b p q = record {
-  tells = subst (λ (z : List Refusal). TellsLeast (Contains z) (sooner a b)) (sym (flat_map-append (λ (i : PlacedInitial). contractum_faults (look i.owner) [] i.terms) xs ys)) (tells_append (initial_faults look xs) (initial_faults look ys) a b p.tells q.tells);
+  tells = subst (λ (z : List Refusal). TellsLeast (Contains z) (sooner a b)) (sym (flat_map-append (λ (i : PlacedInitial). contractum_faults (look i.owner) [] [] i.terms) xs ys)) (tells_append (initial_faults look xs) (initial_faults look ys) a b p.tells q.tells);
   counted = subst (All AreCountable) (sym (map-append (λ (i : PlacedInitial). i.terms) xs ys)) (All-append AreCountable (map (λ (i : PlacedInitial). i.terms) xs) (map (λ (i : PlacedInitial). i.terms) ys) p.counted q.counted);
 }
 
@@ -162,10 +162,10 @@ start_is text s scopes [] = refl
 start_is text s scopes (i ∷ more) = ap (λ (look : ℕ → List ℕ → Option Seen). start_in look (i ∷ more)) (look_is text s scopes)
 
 -- what is assembled is what the text means
-pub program_is : (text : Text) (s : Sights) → IsScopesOf text s → (written : List Rule) (listed : List Placed) → written ≡ rules_from text 5 (groups text) → listed ≡ items text
-    → record { symbols = symbols_in s; rules = arithmetic_rules ++ written; start = start_in (seen_in s) (flat_map initials_in listed) } ≡ program_of text
-program_is text s scopes written listed rules_are items_are =
-    λ j. record { symbols = scopes.symbols j; rules = arithmetic_rules ++ rules_are j; start = (ap (λ (l : List Placed). start_in (seen_in s) (flat_map initials_in l)) items_are ∙ start_is text s scopes (all_initials text)) j }
+pub program_is : (text : Text) (s : Sights) → IsScopesOf text s → (wide : Bool) (written : List Rule) (listed : List Placed) → wide ≡ is_wide text → written ≡ rules_from text 5 (groups text) → listed ≡ items text
+    → record { symbols = symbols_in s; rules = arithmetic_rules ++ written; start = start_in (seen_in s) (flat_map initials_in listed); wide = wide } ≡ program_of text
+program_is text s scopes wide written listed wide_is rules_are items_are =
+    λ j. record { symbols = scopes.symbols j; rules = arithmetic_rules ++ rules_are j; start = (ap (λ (l : List Placed). start_in (seen_in s) (flat_map initials_in l)) items_are ∙ start_is text s scopes (all_initials text)) j; wide = wide_is j }
 
 pub valid : (text : Text) → IsCountable text → NoFault (CycleFault text) → NoFault (RuleFault text) → IsSpelled text → NoFault (ScopeFault text) → IsValid (program_of text)
 valid text counted cycles sound spelled scope = valid_without_faults text spelled counted (λ r h. elim h [ inl names ↦ scope r names | inr late ↦ elim late [ inl cycle ↦ cycles r cycle | inr rule ↦ sound r rule ] ])

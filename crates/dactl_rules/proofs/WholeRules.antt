@@ -13,17 +13,17 @@ use Rattle.dactl_model.specs.declared.program.Class.TheVariants as classes
 use Rattle.dactl_model.specs.declared.program.Pat.{Pat}
 use Rattle.dactl_model.specs.declared.program.Body.TheVariants.{Written}
 use Rattle.dactl_model.specs.Binders.{head}
-use Rattle.dactl_syntax.specs.declared.tree.Name.{Name}
-use Rattle.dactl_syntax.specs.declared.tree.PatternTree.{PatternTree}
-use Rattle.dactl_syntax.specs.declared.tree.RuleTree.{RuleTree}
-use Rattle.dactl_syntax.specs.declared.tree.TermTree.{TermTree}
-use Rattle.dactl_syntax.specs.declared.tree.Text.{Text}
-use Rattle.dactl_syntax.specs.Faults.{phase, Precedes, NoFault, IsLeastFault, IsDueFault, TellsFaults}
-use Rattle.dactl_syntax.specs.Meaning.{rule_of}
-use Rattle.dactl_syntax.specs.Sight.{Seen, sees, class_for}
-use Rattle.dactl_syntax.specs.Expansion.{is_among, number_in, variables_of, root_names, pattern_nodes, rule_expansion, pattern_expansion}
-use Rattle.dactl_syntax.specs.Contractum.{Sketch, MentionTree, term_of_part, made_by, mentions_of, has_star, fresh_of, fresh_nodes, moves_of, wakes_of}
-use Rattle.dactl_syntax.specs.RuleFaults.{each_at, at_if, is_too_wide, binders_in_choice, wide_in_pattern, named_twice_in_pattern, again, place_of, head_is, is_class, lefts_of, contractum_faults, pattern_faults, left_faults, rule_faults, root_not_rewritable, unbound_lefts, redirected_twice, not_overwritable}
+use Rattle.dactl_meaning.specs.declared.tree.Name.{Name}
+use Rattle.dactl_meaning.specs.declared.tree.PatternTree.{PatternTree}
+use Rattle.dactl_meaning.specs.declared.tree.RuleTree.{RuleTree}
+use Rattle.dactl_meaning.specs.declared.tree.TermTree.{TermTree}
+use Rattle.dactl_meaning.specs.declared.tree.Text.{Text}
+use Rattle.dactl_meaning.specs.Faults.{phase, Precedes, NoFault, IsLeastFault, IsDueFault, TellsFaults}
+use Rattle.dactl_meaning.specs.Meaning.{rule_of}
+use Rattle.dactl_meaning.specs.Sight.{Seen, sees, class_for}
+use Rattle.dactl_meaning.specs.Expansion.{is_among, number_in, variables_of, root_names, pattern_nodes, rule_expansion, pattern_expansion}
+use Rattle.dactl_meaning.specs.Contractum.{Sketch, MentionTree, term_of_part, made_by, mentions_of, has_star, fresh_of, fresh_nodes, moves_of, wakes_of, asked_by, suspend_of}
+use Rattle.dactl_meaning.specs.RuleFaults.{suspendable, each_at, at_if, is_too_wide, binders_in_choice, wide_in_pattern, named_twice_in_pattern, again, place_of, head_is, is_class, lefts_of, contractum_faults, pattern_faults, left_faults, rule_faults, root_not_rewritable, unbound_lefts, redirected_twice, not_overwritable}
 use Rattle.dactl_symbols.specs.Least.{sooner, precedes, TellsLeast}
 use Rattle.dactl_symbols.specs.Scoping.{seen_in, class_in, IsScopesOf}
 use Rattle.dactl_symbols.specs.Sights.{Sights}
@@ -36,7 +36,7 @@ use Rattle.dactl_rules.specs.Lefts.{words, left_unbound, left_fixed, is_fixed}
 use Rattle.dactl_rules.specs.Reading.{IsRead}
 use Rattle.dactl_rules.specs.Rules.{early_faults, fixed_faults, meant_of, IsAnswerFor}
 use Rattle.dactl_rules.specs.Meant.{wake_of}
-use Rattle.dactl_rules.specs.Told.{fault_at, drawn_faults}
+use Rattle.dactl_rules.specs.Told.{fault_at, suspensions_in, drawn_faults}
 use Rattle.dactl_rules.proofs.Least.{one_is}
 use Rattle.dactl_rules.proofs.Meanings.{wake_one}
 use Rattle.dactl_rules.proofs.ValidTests.{not_above as not_wider}
@@ -108,7 +108,7 @@ module _ (text : Text) (s : Sights) (m : ℕ) (tree : RuleTree) (r : RuleParts) 
   root_fault = each_at kinds.RootNotRewritable (root_not_rewritable (λ f. is_class classes.Rewritable (class_for text m f)) (rule_expansion text m tree.pattern) tree)
 
   abbrev drawn : List Refusal
-  drawn = contractum_faults (sees text m) (variables_of tree.pattern) (map term_of_part tree.parts)
+  drawn = contractum_faults (sees text m) (variables_of tree.pattern) (suspendable tree) (map term_of_part tree.parts)
 
   abbrev unbound : List Refusal
   unbound = each_at kinds.Unbound (unbound_lefts tree)
@@ -125,8 +125,8 @@ module _ (text : Text) (s : Sights) (m : ℕ) (tree : RuleTree) (r : RuleParts) 
       ∙ ap (λ (h : Option ℕ). fault_at (not (head_is (λ f. is_class classes.Rewritable (class_for text m f)) h)) kinds.RootNotRewritable tree.place) read.head
       ∙ at_one (not (head_is (λ f. is_class classes.Rewritable (class_for text m f)) (head (rule_expansion text m tree.pattern)))) kinds.RootNotRewritable tree.place
 
-  drawn_is : drawn_faults (seen_in s m) r.variables (made_in r.contractum.drawing) (mentioned_in r.contractum.drawing) ≡ drawn
-  drawn_is = λ j. drawn_faults (look_is j) (read.variables j) (read.drawn.made j) (read.drawn.mentions j)
+  drawn_is : drawn_faults (seen_in s m) r.variables r.suspendable (made_in r.contractum.drawing) (mentioned_in r.contractum.drawing) ≡ drawn
+  drawn_is = λ j. drawn_faults (look_is j) (read.variables j) (read.suspendable j) (read.drawn.made j) (read.drawn.mentions j)
 
   unbound_is : flat_map (left_unbound r.variables) (words r.lefts.items) ≡ unbound
   unbound_is = (λ j. flat_map (left_unbound (read.variables j)) (read.lefts j)) ∙ left_unbound_told (variables_of tree.pattern) (lefts_of tree.parts)
@@ -243,10 +243,13 @@ wakes_are variables (m ∷ ms) =
 
 module _ (text : Text) (s : Sights) (m group : ℕ) (tree : RuleTree) (r : RuleParts) (scopes : IsScopesOf text s) (read : IsRead text m tree r) where
   body_is : Written (map (fresh_of (seen_in s m) r.variables (made_in r.contractum.drawing)) (made_in r.contractum.drawing)) (moves_of r.variables tree.redirects tree.parts) (filter_map (wake_of r.variables) (mentioned_in r.contractum.drawing))
+      (asked_by (suspensions_in r.suspendable (mentioned_in r.contractum.drawing)))
       ≡ Written (fresh_nodes (sees text m) (variables_of tree.pattern) (map term_of_part tree.parts)) (moves_of (variables_of tree.pattern) tree.redirects tree.parts) (wakes_of (variables_of tree.pattern) (map term_of_part tree.parts))
+      (suspend_of (suspendable tree) (map term_of_part tree.parts))
   body_is =
-      (λ j. Written (map (fresh_of (look_is text s m tree r scopes read j) (read.variables j) (read.drawn.made j)) (read.drawn.made j)) (moves_of (read.variables j) tree.redirects tree.parts) (filter_map (wake_of (read.variables j)) (read.drawn.mentions j)))
-      ∙ ap (λ (w : List ℕ). Written (fresh_nodes (sees text m) (variables_of tree.pattern) (map term_of_part tree.parts)) (moves_of (variables_of tree.pattern) tree.redirects tree.parts) w) (wakes_are (variables_of tree.pattern) (mentions_of (map term_of_part tree.parts)))
+      (λ j. Written (map (fresh_of (look_is text s m tree r scopes read j) (read.variables j) (read.drawn.made j)) (read.drawn.made j)) (moves_of (read.variables j) tree.redirects tree.parts) (filter_map (wake_of (read.variables j)) (read.drawn.mentions j))
+      (asked_by (suspensions_in (read.suspendable j) (read.drawn.mentions j))))
+      ∙ ap (λ (w : List ℕ). Written (fresh_nodes (sees text m) (variables_of tree.pattern) (map term_of_part tree.parts)) (moves_of (variables_of tree.pattern) tree.redirects tree.parts) w (suspend_of (suspendable tree) (map term_of_part tree.parts))) (wakes_are (variables_of tree.pattern) (mentions_of (map term_of_part tree.parts)))
 
   -- what is meant by what is read is what the tree means
   pub meant_is : meant_of s m group tree r (rule_expansion text m tree.pattern) ≡ rule_of text m group tree

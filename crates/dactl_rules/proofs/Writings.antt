@@ -5,7 +5,7 @@ use Rattle.dactl_model.specs.declared.program.Pat.TheVariants as pat
 use Rattle.dactl_model.specs.declared.program.Pat.TheVariants.{rolls-Sym}
 use Rattle.dactl_model.specs.declared.program.Pat.TheOpen.{Pat-F}
 use Rattle.dactl_model.specs.declared.program.Pat.TheFolds.{fold-Pat, fold-roll-Pat}
-use Rattle.dactl_syntax.specs.Expansion.{Overwriting, overwriting_level, some_gives}
+use Rattle.dactl_meaning.specs.Expansion.{Overwriting, overwriting_level, some_gives}
 use Rattle.dactl_rules.specs.Writing.{gives, some_give}
 
 some_given : (writable : ℕ → Bool) (v : ℕ) (args : List Pat) → some_gives (map (fold-Pat Overwriting (overwriting_level writable v)) args) ≡ some_give writable v args

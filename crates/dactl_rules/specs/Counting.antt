@@ -1,10 +1,10 @@
 -- How much of a text can be counted: groups of rules, and what each contractum makes, have numbers of 31 bits.
 use Rattle.std.specs.Prelude.{ℕ, ◌+◌, ◌^◌, ◌<◌, List, length, sum_by, All}
-use Rattle.dactl_syntax.specs.declared.tree.TermTree.{TermTree}
-use Rattle.dactl_syntax.specs.declared.tree.Text.{Text}
-use Rattle.dactl_syntax.specs.Declarations.{groups}
-use Rattle.dactl_syntax.specs.Contractum.{Sketch, made_by}
-use Rattle.dactl_syntax.specs.Spelling.{contracta}
+use Rattle.dactl_meaning.specs.declared.tree.TermTree.{TermTree}
+use Rattle.dactl_meaning.specs.declared.tree.Text.{Text}
+use Rattle.dactl_meaning.specs.Declarations.{groups}
+use Rattle.dactl_meaning.specs.Contractum.{Sketch, made_by}
+use Rattle.dactl_meaning.specs.Spelling.{contracta}
 
 -- how many arcs new nodes have together
 abbrev pub arcs_of : List Sketch → ℕ

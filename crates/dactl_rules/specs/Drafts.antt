@@ -1,8 +1,8 @@
 -- What is known of a text before its program is put together.
 use Rattle.std.specs.Prelude.{◌≡◌, ◌<◌, ◌^◌, None}
-use Rattle.dactl_syntax.specs.declared.tree.Text.{Text}
-use Rattle.dactl_syntax.specs.Declarations.{groups}
-use Rattle.dactl_syntax.specs.Meaning.{rules_from, RuleFault}
+use Rattle.dactl_meaning.specs.declared.tree.Text.{Text}
+use Rattle.dactl_meaning.specs.Declarations.{groups}
+use Rattle.dactl_meaning.specs.Meaning.{rules_from, RuleFault}
 use Rattle.dactl_symbols.specs.Least.{TellsLeast}
 use Rattle.dactl_rules.specs.declared.compiled.CompiledRules.{CompiledRules}
 use Rattle.dactl_rules.specs.Counting.{IsCountable}

@@ -2,13 +2,13 @@
 use Rattle.std.specs.Prelude.{◌≡◌, ℕ, zero, suc, Bool, List, [], ◌∷◌, ◌++◌, map, length, Option, option_map}
 use Rattle.std.specs.List.{flat_map}
 use Rattle.std.specs.Borrow.{Bor}
-use Rattle.dactl_syntax.specs.declared.tree.Name.{Name}
-use Rattle.dactl_syntax.specs.declared.tree.Marks.{Marks}
-use Rattle.dactl_syntax.specs.declared.tree.NodeTree.{NodeTree}
-use Rattle.dactl_syntax.specs.declared.tree.ArgTree.{ArgTree}
-use Rattle.dactl_syntax.specs.declared.tree.NodeTree.TheFolds.{fold-NodeTree, fold-ArgTree}
-use Rattle.dactl_syntax.specs.Contractum as contractum
-use Rattle.dactl_syntax.specs.Contractum.{Drawn, DrawnArc, MentionTree, node_drawn, arg_drawn, term_drawn, drawn_from, node_mentions, arg_mentions, term_mentions}
+use Rattle.dactl_meaning.specs.declared.tree.Name.{Name}
+use Rattle.dactl_meaning.specs.declared.tree.Marks.{Marks}
+use Rattle.dactl_meaning.specs.declared.tree.NodeTree.{NodeTree}
+use Rattle.dactl_meaning.specs.declared.tree.ArgTree.{ArgTree}
+use Rattle.dactl_meaning.specs.declared.tree.NodeTree.TheFolds.{fold-NodeTree, fold-ArgTree}
+use Rattle.dactl_meaning.specs.Contractum as contractum
+use Rattle.dactl_meaning.specs.Contractum.{Drawn, DrawnArc, MentionTree, node_drawn, arg_drawn, term_drawn, drawn_from, node_mentions, arg_mentions, term_mentions}
 use Rattle.dactl_rules.specs.declared.drawing.Target.{Target}
 use Rattle.dactl_rules.specs.declared.drawing.Target.TheVariants as target
 use Rattle.dactl_rules.specs.declared.drawing.Core.{Core}
@@ -47,6 +47,7 @@ target_of (target.Named w) = contractum.Named w.now
 
 abbrev pub core_of : Core → contractum.Core
 core_of (core.Number value) = contractum.Number value
+core_of (core.Character value) = contractum.Character value
 core_of (core.Of name) = contractum.Of name.now
 
 abbrev pub arc_of : SketchArc → Bool × contractum.Target

@@ -3,11 +3,11 @@ use Rattle.std.specs.Prelude.{ℕ, List, [], ◌∷◌, map, All, Contains, Opti
 use Rattle.std.specs.List.{flat_map}
 use Rattle.dactl_base.specs.declared.refusal.Refusal.{Refusal}
 use Rattle.dactl_model.specs.declared.program.Start.{Start}
-use Rattle.dactl_syntax.specs.Contractum.{Sketch, Target, denotes, fresh_nodes}
-use Rattle.dactl_syntax.specs.Declarations.{Placed}
-use Rattle.dactl_syntax.specs.Meaning.{PlacedInitial, item_initial, node_number, root_of}
-use Rattle.dactl_syntax.specs.RuleFaults.{contractum_faults}
-use Rattle.dactl_syntax.specs.Sight.{Seen}
+use Rattle.dactl_meaning.specs.Contractum.{Sketch, Target, denotes, fresh_nodes}
+use Rattle.dactl_meaning.specs.Declarations.{Placed}
+use Rattle.dactl_meaning.specs.Meaning.{PlacedInitial, item_initial, node_number, root_of}
+use Rattle.dactl_meaning.specs.RuleFaults.{contractum_faults}
+use Rattle.dactl_meaning.specs.Sight.{Seen}
 use Rattle.dactl_symbols.specs.Least.{TellsLeast}
 use Rattle.dactl_rules.specs.declared.initials.Initial.{Initial}
 use Rattle.dactl_rules.specs.Counting.{AreCountable}
@@ -22,7 +22,7 @@ initial_of i = record { owner = i.owner; terms = i.terms.now }
 
 -- the faults of every INITIAL, by what each module sees
 abbrev pub initial_faults : (ℕ → List ℕ → Option Seen) → List PlacedInitial → List Refusal
-initial_faults look initials = flat_map (λ i. contractum_faults (look i.owner) [] i.terms) initials
+initial_faults look initials = flat_map (λ i. contractum_faults (look i.owner) [] [] i.terms) initials
 
 -- this is their first fault, and what they make can be counted
 pub record AreRead (look : ℕ → List ℕ → Option Seen) (initials : List PlacedInitial) (least : Option Refusal) : Type 0 where

@@ -1,8 +1,8 @@
 -- The items of a text, as the code keeps them.
 use Rattle.std.specs.Prelude.{ℕ, List, map}
 use Rattle.std.specs.List.{enumerate_from}
-use Rattle.dactl_syntax.specs.declared.tree.Item.{Item}
-use Rattle.dactl_syntax.specs.Declarations as text
+use Rattle.dactl_meaning.specs.declared.tree.Item.{Item}
+use Rattle.dactl_meaning.specs.Declarations as text
 use Rattle.dactl_rules.specs.declared.listing.Placed.{Placed}
 
 -- the item behind the reference, with its numbers

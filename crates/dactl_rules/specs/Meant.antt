@@ -3,10 +3,10 @@ use Rattle.std.specs.Prelude.{ℕ, Bool, true, false, ◌&&◌, List, [], ◌∷
 use Rattle.dactl_model.specs.declared.program.FreshArc.{FreshArc}
 use Rattle.dactl_model.specs.declared.program.Left.TheVariants.{Root, Variable}
 use Rattle.dactl_model.specs.declared.program.Move.{Move}
-use Rattle.dactl_syntax.specs.declared.tree.Name.{Name}
-use Rattle.dactl_syntax.specs.declared.tree.Part.{Part}
-use Rattle.dactl_syntax.specs.Expansion.{is_among, number_in}
-use Rattle.dactl_syntax.specs.Contractum.{Target, Sketch, MentionTree, denotes, has_star, left_of_part}
+use Rattle.dactl_meaning.specs.declared.tree.Name.{Name}
+use Rattle.dactl_meaning.specs.declared.tree.Part.{Part}
+use Rattle.dactl_meaning.specs.Expansion.{is_among, number_in}
+use Rattle.dactl_meaning.specs.Contractum.{Target, Sketch, MentionTree, denotes, has_star, left_of_part}
 
 -- an arc of a new node
 abbrev pub arc_meant : List (List ℕ) → List Sketch → Bool × Target → FreshArc

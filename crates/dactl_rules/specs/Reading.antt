@@ -1,11 +1,11 @@
 -- What is read of a rule.
 use Rattle.std.specs.Prelude.{◌≡◌, ℕ, ◌<◌, ◌^◌, List, map, length}
 use Rattle.dactl_model.specs.Binders.{head}
-use Rattle.dactl_syntax.specs.declared.tree.RuleTree.{RuleTree}
-use Rattle.dactl_syntax.specs.declared.tree.Text.{Text}
-use Rattle.dactl_syntax.specs.Expansion.{variables_of, root_names, rule_expansion}
-use Rattle.dactl_syntax.specs.Contractum.{term_of_part}
-use Rattle.dactl_syntax.specs.RuleFaults.{lefts_of}
+use Rattle.dactl_meaning.specs.declared.tree.RuleTree.{RuleTree}
+use Rattle.dactl_meaning.specs.declared.tree.Text.{Text}
+use Rattle.dactl_meaning.specs.Expansion.{variables_of, root_names, rule_expansion}
+use Rattle.dactl_meaning.specs.Contractum.{term_of_part}
+use Rattle.dactl_meaning.specs.RuleFaults.{lefts_of, suspendable}
 use Rattle.dactl_rules.specs.declared.reading.RuleParts.{RuleParts}
 use Rattle.dactl_rules.specs.Drawing.{made_in}
 use Rattle.dactl_rules.specs.Lefts.{words}
@@ -18,6 +18,7 @@ pub record IsRead (text : Text) (m : ℕ) (tree : RuleTree) (r : RuleParts) : Ty
   pub head : r.head ≡ head (rule_expansion text m tree.pattern)
   pub variables : r.variables ≡ variables_of tree.pattern
   pub roots : r.roots ≡ root_names tree.pattern
+  pub suspendable : r.suspendable ≡ suspendable tree
   pub lefts : words r.lefts.items ≡ lefts_of tree.parts
   pub drawn : AreDrawn (map term_of_part tree.parts) r.contractum.drawing r.contractum.targets.items
   pub small : length r.contractum.drawing.made.items < 2 ^ 31

@@ -3,14 +3,14 @@ use Rattle.std.specs.Prelude.{◌≡◌, ℕ, ◌+◌, List, ◌++◌, map, leng
 use Rattle.std.specs.List.{flat_map}
 use Rattle.dactl_base.specs.declared.refusal.Refusal.{Refusal}
 use Rattle.dactl_model.specs.declared.program.Rule.{Rule}
-use Rattle.dactl_syntax.specs.declared.tree.TermTree.{TermTree}
-use Rattle.dactl_syntax.specs.declared.tree.RuleTree.{RuleTree}
-use Rattle.dactl_syntax.specs.declared.tree.Group.{Group}
-use Rattle.dactl_syntax.specs.declared.tree.Text.{Text}
-use Rattle.dactl_syntax.specs.Declarations.{Placed, PlacedGroup, item_groups}
-use Rattle.dactl_syntax.specs.Contractum.{term_of_part}
-use Rattle.dactl_syntax.specs.Meaning.{rules_from}
-use Rattle.dactl_syntax.specs.RuleFaults.{rule_faults}
+use Rattle.dactl_meaning.specs.declared.tree.TermTree.{TermTree}
+use Rattle.dactl_meaning.specs.declared.tree.RuleTree.{RuleTree}
+use Rattle.dactl_meaning.specs.declared.tree.Group.{Group}
+use Rattle.dactl_meaning.specs.declared.tree.Text.{Text}
+use Rattle.dactl_meaning.specs.Declarations.{Placed, PlacedGroup, item_groups}
+use Rattle.dactl_meaning.specs.Contractum.{term_of_part}
+use Rattle.dactl_meaning.specs.Meaning.{rules_from}
+use Rattle.dactl_meaning.specs.RuleFaults.{rule_faults}
 use Rattle.dactl_symbols.specs.Least.{sooner, TellsLeast}
 use Rattle.dactl_rules.specs.declared.compiled.CompiledRules.{CompiledRules}
 use Rattle.dactl_rules.specs.Counting.{AreCountable}

@@ -11,24 +11,24 @@ use Rattle.dactl_model.specs.declared.program.Class.TheVariants as classes
 use Rattle.dactl_model.specs.declared.program.Pat.{Pat}
 use Rattle.dactl_model.specs.declared.program.Body.TheVariants.{Written}
 use Rattle.dactl_model.specs.declared.program.Rule.{Rule}
-use Rattle.dactl_syntax.specs.declared.tree.Name.{Name}
-use Rattle.dactl_syntax.specs.declared.tree.RuleTree.{RuleTree}
-use Rattle.dactl_syntax.specs.Expansion.{is_among}
-use Rattle.dactl_syntax.specs.Contractum.{fresh_of, moves_of}
-use Rattle.dactl_syntax.specs.RuleFaults.{each_at, again, place_of, head_is, is_class}
+use Rattle.dactl_meaning.specs.declared.tree.Name.{Name}
+use Rattle.dactl_meaning.specs.declared.tree.RuleTree.{RuleTree}
+use Rattle.dactl_meaning.specs.Expansion.{is_among}
+use Rattle.dactl_meaning.specs.Contractum.{fresh_of, moves_of, asked_by}
+use Rattle.dactl_meaning.specs.RuleFaults.{each_at, again, place_of, head_is, is_class}
 use Rattle.dactl_symbols.specs.Sights.{Sights}
 use Rattle.dactl_symbols.specs.Scoping.{seen_in, class_in}
 use Rattle.dactl_rules.specs.declared.reading.RuleParts.{RuleParts}
 use Rattle.dactl_rules.specs.Drawing.{made_in, mentioned_in}
 use Rattle.dactl_rules.specs.Lefts.{words, left_unbound, left_fixed}
 use Rattle.dactl_rules.specs.Meant.{wake_of}
-use Rattle.dactl_rules.specs.Told.{fault_at, drawn_faults}
+use Rattle.dactl_rules.specs.Told.{fault_at, suspensions_in, drawn_faults}
 
 -- the faults for which the expansion of the pattern is not needed, apart from those of the pattern
 abbrev pub early_faults : Sights → ℕ → RuleTree → RuleParts → List Refusal
 early_faults s m tree r =
     fault_at (not (head_is (λ f. is_class classes.Rewritable (class_in s m f)) r.head)) kinds.RootNotRewritable tree.place
-    ++ drawn_faults (seen_in s m) r.variables (made_in r.contractum.drawing) (mentioned_in r.contractum.drawing)
+    ++ drawn_faults (seen_in s m) r.variables r.suspendable (made_in r.contractum.drawing) (mentioned_in r.contractum.drawing)
     ++ flat_map (left_unbound r.variables) (words r.lefts.items)
     ++ each_at kinds.RedirectedTwice (map place_of (again (if tree.redirects then r.roots else []) (filter (λ n. is_among r.variables n.text) (words r.lefts.items))))
 
@@ -50,5 +50,7 @@ meant_of s m group tree r pattern =
       group = group;
       variables = length r.variables;
       pattern = pattern;
-      body = Written (map (fresh_of (seen_in s m) r.variables made) made) (moves_of r.variables tree.redirects tree.parts) (filter_map (wake_of r.variables) (mentioned_in r.contractum.drawing));
+      body =
+          Written (map (fresh_of (seen_in s m) r.variables made) made) (moves_of r.variables tree.redirects tree.parts) (filter_map (wake_of r.variables) (mentioned_in r.contractum.drawing))
+          (asked_by (suspensions_in r.suspendable (mentioned_in r.contractum.drawing)));
     }

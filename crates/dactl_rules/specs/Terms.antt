@@ -1,8 +1,8 @@
 -- What the terms of a contractum make, mention and stand for.
 use Rattle.std.specs.Prelude.{◌≡◌, ℕ, ◌<◌, ◌≤◌, ◌^◌, List, map, length}
 use Rattle.std.specs.Borrow.{Bor}
-use Rattle.dactl_syntax.specs.declared.tree.TermTree.{TermTree}
-use Rattle.dactl_syntax.specs.Contractum.{terms_draw, made_by, mentions_of}
+use Rattle.dactl_meaning.specs.declared.tree.TermTree.{TermTree}
+use Rattle.dactl_meaning.specs.Contractum.{terms_draw, made_by, mentions_of}
 use Rattle.dactl_rules.specs.declared.drawing.Target.{Target}
 use Rattle.dactl_rules.specs.declared.drawing.Drawing.{Drawing}
 use Rattle.dactl_rules.specs.declared.contractum.Contractum.{Contractum}

@@ -1,16 +1,15 @@
 -- The faults of a contractum, new node by new node and mention by mention.
-use Rattle.std.specs.Prelude.{ℕ, Bool, false, not, ◌&&◌, List, [], ◌∷◌, ◌++◌, map, length, count_by, Option, if◌then◌else◌, nat_lt}
+use Rattle.std.specs.Prelude.{ℕ, Bool, false, not, ◌&&◌, List, [], ◌∷◌, ◌++◌, map, length, drop, count_by, Option, if◌then◌else◌, nat_lt}
 use Rattle.dactl_base.specs.declared.refusal.Kind.{Kind}
 use Rattle.dactl_base.specs.declared.refusal.Kind.TheVariants as kinds
 use Rattle.dactl_base.specs.declared.refusal.Place.{Place}
 use Rattle.dactl_base.specs.declared.refusal.Refusal.{Refusal}
-use Rattle.dactl_syntax.specs.declared.tree.Marks.{Marks}
-use Rattle.dactl_syntax.specs.declared.tree.Marks.TheVariants as marks
-use Rattle.dactl_syntax.specs.Sight.{Seen}
-use Rattle.dactl_syntax.specs.Contractum.{Core, Number, Of, Sketch, MentionTree}
-use Rattle.dactl_syntax.specs.Contractum.{given_names}
-use Rattle.dactl_syntax.specs.Expansion.{is_among}
-use Rattle.dactl_syntax.specs.RuleFaults.{is_pattern, each_at, again, place_of, core_names, mark_on_bound, too_many_waits_at}
+use Rattle.dactl_meaning.specs.declared.tree.Marks.{Marks}
+use Rattle.dactl_meaning.specs.declared.tree.Marks.TheVariants as marks
+use Rattle.dactl_meaning.specs.Sight.{Seen}
+use Rattle.dactl_meaning.specs.Contractum.{Core, Number, Character, Of, Sketch, MentionTree, given_names, has_hashes}
+use Rattle.dactl_meaning.specs.Expansion.{is_among}
+use Rattle.dactl_meaning.specs.RuleFaults.{is_pattern, each_at, again, place_of, core_names, mark_on_bound, mark_place, too_many_waits_at}
 use Rattle.std.specs.List.{filter, flat_map}
 
 -- the fault of the kind at the place, where it holds
@@ -20,6 +19,7 @@ fault_at holds kind place = if holds then record { kind = kind; place = place } 
 -- the same at the name of a symbol
 abbrev pub core_fault : Bool → Kind → Core → List Refusal
 core_fault holds kind (Number value) = []
+core_fault holds kind (Character value) = []
 core_fault holds kind (Of name) = fault_at holds kind name.place
 
 -- too many arguments
@@ -29,6 +29,7 @@ wide_at s = core_fault (nat_lt 16 (length s.arcs)) kinds.TooWide s.core
 -- the name is that of a named pattern
 abbrev pub names_pattern : (List ℕ → Option Seen) → Core → Bool
 names_pattern look (Number value) = false
+names_pattern look (Character value) = false
 names_pattern look (Of name) = is_pattern (look name.text)
 
 abbrev pub creatable_at : (List ℕ → Option Seen) → Sketch → List Refusal
@@ -48,21 +49,40 @@ abbrev pub unbound_at : (List ℕ → Bool) → MentionTree → List Refusal
 unbound_at is_bound m = fault_at (not (is_bound m.name.text)) kinds.Unbound m.name.place
 
 -- a mark before a bound name that may not have it
-abbrev pub mark_fault : Bool → Bool → Marks → List Refusal
-mark_fault bound variable marks.Plain = []
-mark_fault bound variable (marks.Star p) = fault_at (bound && not variable) kinds.MarkOnBound p
-mark_fault bound variable (marks.Hashes p count) = fault_at bound kinds.MarkOnBound p
+abbrev pub mark_fault : Bool → Bool → Bool → Marks → List Refusal
+mark_fault bound variable root marks.Plain = []
+mark_fault bound variable root (marks.Star p) = fault_at (bound && not variable) kinds.MarkOnBound p
+mark_fault bound variable root (marks.Hashes p count) = fault_at (bound && not root) kinds.MarkOnBound p
 
-abbrev pub mark_at : (List ℕ → Bool) → (List ℕ → Bool) → MentionTree → List Refusal
-mark_at is_bound is_variable m = mark_fault (is_bound m.name.text) (is_variable m.name.text) m.marks
+abbrev pub mark_at : (List ℕ → Bool) → (List ℕ → Bool) → (List ℕ → Bool) → MentionTree → List Refusal
+mark_at is_bound is_variable is_root m = mark_fault (is_bound m.name.text) (is_variable m.name.text) (is_root m.name.text) m.marks
 
--- the faults of a contractum with these new nodes and mentions, kind by kind
-abbrev pub drawn_faults : (List ℕ → Option Seen) → List (List ℕ) → List Sketch → List MentionTree → List Refusal
-drawn_faults look variables made mentions =
+-- a mention of one of these names, which are the root's, with `#`
+abbrev pub is_suspension : List (List ℕ) → MentionTree → Bool
+is_suspension roots m = has_hashes m.marks && is_among roots m.name.text
+
+-- the mentions that are so
+abbrev pub suspensions_in : List (List ℕ) → List MentionTree → List MentionTree
+suspensions_in roots mentions = filter (is_suspension roots) mentions
+
+-- the fault at the first mark, where it holds
+abbrev pub fault_at_mark : Bool → Marks → List Refusal
+fault_at_mark holds marks.Plain = []
+fault_at_mark holds (marks.Star p) = fault_at holds kinds.MarkOnBound p
+fault_at_mark holds (marks.Hashes p count) = fault_at holds kinds.MarkOnBound p
+
+-- a fault at each of these mentions but the first
+abbrev pub faults_again : List MentionTree → List Refusal
+faults_again mentions = each_at kinds.MarkOnBound (flat_map (λ m. mark_place m.marks) (drop 1 mentions))
+
+-- the faults of a contractum with these new nodes and mentions, kind by kind, by its variables and the names of its root that may have `#`
+abbrev pub drawn_faults : (List ℕ → Option Seen) → List (List ℕ) → List (List ℕ) → List Sketch → List MentionTree → List Refusal
+drawn_faults look variables roots made mentions =
     let bound = variables ++ map (λ n. n.text) (given_names made) in
     each_at kinds.TooWide (map place_of (flat_map (λ s. core_names s.core) (filter (λ s. nat_lt 16 (length s.arcs)) made)))
     ++ each_at kinds.Unbound (map (λ m. place_of m.name) (filter (λ m. not (is_among bound m.name.text)) mentions))
     ++ each_at kinds.NamedTwice (map place_of (again variables (given_names made)))
     ++ each_at kinds.NotCreatable (map place_of (filter (λ n. is_pattern (look n.text)) (flat_map (λ s. core_names s.core) made)))
-    ++ each_at kinds.MarkOnBound (flat_map (λ m. mark_on_bound (is_among variables m.name.text) m.marks) (filter (λ m. is_among bound m.name.text) mentions))
+    ++ each_at kinds.MarkOnBound (flat_map (λ m. mark_on_bound (is_among variables m.name.text) (is_among roots m.name.text) m.marks) (filter (λ m. is_among bound m.name.text) mentions))
+    ++ faults_again (suspensions_in roots mentions)
     ++ each_at kinds.TooManyWaits (flat_map (λ s. too_many_waits_at s s.marks) made)

@@ -1,9 +1,9 @@
 -- The program of a tree without faults is valid.
 use Rattle.dactl_model.specs.Programs.{IsValid}
-use Rattle.dactl_syntax.specs.declared.tree.Text.{Text}
-use Rattle.dactl_syntax.specs.Faults.{NoFault}
-use Rattle.dactl_syntax.specs.Meaning.{program_of, TreeFault}
-use Rattle.dactl_syntax.specs.Spelling.{IsSpelled}
+use Rattle.dactl_meaning.specs.declared.tree.Text.{Text}
+use Rattle.dactl_meaning.specs.Faults.{NoFault}
+use Rattle.dactl_meaning.specs.Meaning.{program_of, TreeFault}
+use Rattle.dactl_meaning.specs.Spelling.{IsSpelled}
 use Rattle.dactl_rules.specs.Counting.{IsCountable}
 
 -- the program of a tree without faults is valid

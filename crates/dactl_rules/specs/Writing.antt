@@ -3,7 +3,7 @@ use Rattle.std.specs.Prelude.{ℕ, Bool, List}
 use Rattle.std.specs.List.{list_any}
 use Rattle.dactl_model.specs.declared.program.Pat.{Pat}
 use Rattle.dactl_model.specs.declared.program.Pat.TheFolds.{fold-Pat}
-use Rattle.dactl_syntax.specs.Expansion.{Overwriting, overwriting_level, is_overwritable}
+use Rattle.dactl_meaning.specs.Expansion.{Overwriting, overwriting_level, is_overwritable}
 
 -- the pattern holds at over-writable nodes alone
 abbrev pub is_so : (ℕ → Bool) → ℕ → Pat → Bool

@@ -1,8 +1,8 @@
 //! The rules of a text, group by group, and the first of their faults.
 ghost use Rattle.std.specs.Prelude.{◌≡◌, [], ◌∷◌, IfOk, OnOk, map};
 ghost use Rattle.std.specs.List.{flat_map};
-ghost use Rattle.dactl_syntax.specs.Meaning.{rule_of};
-ghost use Rattle.dactl_syntax.specs.RuleFaults.{rule_faults};
+ghost use Rattle.dactl_meaning.specs.Meaning.{rule_of};
+ghost use Rattle.dactl_meaning.specs.RuleFaults.{rule_faults};
 ghost use Rattle.dactl_patterns.specs.Table.{AreNamed};
 ghost use Rattle.dactl_rules.specs.Listing.{placed};
 ghost use Rattle.dactl_rules.specs.RuleLists.{Adds, AddsGroups, HasRules, terms_of, placed_groups, groups_in};
@@ -10,10 +10,10 @@ ghost use Rattle.dactl_rules.specs.RuleLists.{Adds, AddsGroups, HasRules, terms_
 use crate::listing::Placed;
 use crate::rule::rule;
 use dactl_base::refusal::{Memory, Refusal, TextFault};
+use dactl_meaning::tree::{Group, Item, RuleTree};
 use dactl_model::program::Rule;
 use dactl_patterns::NamedPatterns;
 use dactl_symbols::least::lesser;
-use dactl_syntax::tree::{Group, Item, RuleTree};
 use std::alloc::{AllocError, Global};
 
 /// Rules so far, the number of the next group, and the first fault so far. Behind a fault there may

@@ -2,31 +2,34 @@
 ghost use Rattle.std.specs.Prelude.{◌≡◌, ◌⊎◌, ◌++◌, true, Contains, IfOk, map};
 ghost use Rattle.std.specs.List.{flat_map};
 ghost use Rattle.dactl_model.specs.Programs.{IsValid};
-ghost use Rattle.dactl_syntax.specs.Declarations.{items as items_in};
-ghost use Rattle.dactl_syntax.specs.Faults.{NoFault, TellsFaults};
-ghost use Rattle.dactl_syntax.specs.Meaning.{CycleFault, RuleFault, arithmetic_rules, named_faults, program_of};
-ghost use Rattle.dactl_syntax.specs.RuleFaults.{pattern_faults};
-ghost use Rattle.dactl_syntax.specs.ScopeFaults.{ScopeFault};
+ghost use Rattle.dactl_meaning.specs.Declarations.{items as items_in};
+ghost use Rattle.dactl_meaning.specs.Faults.{NoFault, TellsFaults};
+ghost use Rattle.dactl_meaning.specs.Meaning.{CycleFault, RuleFault, arithmetic_rules, named_faults, program_of};
+ghost use Rattle.dactl_meaning.specs.RuleFaults.{pattern_faults};
+ghost use Rattle.dactl_meaning.specs.ScopeFaults.{ScopeFault};
 ghost use Rattle.dactl_symbols.specs.Least.{TellsLeast};
 ghost use Rattle.dactl_symbols.specs.Scoping.{IsScopesOf, seen_in, symbols_in};
 ghost use Rattle.dactl_rules.specs.Initials.{initials_in, start_in};
 ghost use Rattle.dactl_rules.specs.Drafts.{IsDraft};
 ghost use Rattle.dactl_patterns.specs.Table.{AreNamed};
 ghost use Rattle.dactl_rules.specs.Listing.{placed};
-ghost use Rattle.dactl_syntax.specs.Spelling.{IsSpelled};
+ghost use Rattle.dactl_meaning.specs.Spelling.{IsSpelled};
 
 use crate::compiled::{CompiledRules, rules};
 use crate::initials::{initial_fault, start};
 use crate::listing::{Placed, items};
 use dactl_base::refusal::{Memory, Place, Refusal, TextFault};
+use dactl_meaning::tree::{Item, PatternTree, Text};
 use dactl_model::arithmetic::arithmetic_rule;
 use dactl_model::program::{Op, Program, Rule};
 use dactl_patterns::{NamedPatterns, examine, named_patterns};
 use dactl_symbols::least::lesser;
 use dactl_symbols::sight::Scopes;
-use dactl_syntax::tree::{Item, PatternTree, Text};
 use sqlite_items::Items;
 use std::alloc::Global;
+
+/// The language that has integers of 128 bits and characters.
+const WIDE_LANGUAGE: u8 = 2;
 
 /// The numbers of groups are below this one. More groups are want of memory.
 const GROUP_NUMBERS: u32 = 0x8000_0000;
@@ -106,14 +109,16 @@ fn draft(alloc: Global, patterns: &NamedPatterns, items: &[Placed]) -> Result<Co
     Ok(compiled)
 }
 
-/// The program of these rules, behind those of the arithmetic.
+/// The program of these rules, behind those of the arithmetic; `wide` says that it has integers of
+/// 128 bits and characters.
 fn assemble(
     alloc: Global,
+    wide: bool,
     scopes: &Scopes,
     items: &[Placed],
     written: Vec<Rule>,
 ) -> Result<Program, Memory>
-    ensures { IfOk result (λ p. p ≡ record { symbols = symbols_in scopes.now; rules = arithmetic_rules ++ written.items; start = start_in (seen_in scopes.now) (flat_map initials_in (map placed items.now)) }) }
+    ensures { IfOk result (λ p. p ≡ record { symbols = symbols_in scopes.now; rules = arithmetic_rules ++ written.items; start = start_in (seen_in scopes.now) (flat_map initials_in (map placed items.now)); wide = wide }) }
 {
     let symbols = scopes.symbols(alloc)?;
     let mut rules = built_in(alloc)?;
@@ -123,6 +128,7 @@ fn assemble(
         symbols,
         rules,
         start,
+        wide,
     })
 }
 
@@ -149,5 +155,6 @@ pub fn program(alloc: Global, text: &Text, scopes: &Scopes) -> Result<Program, T
     if group >= GROUP_NUMBERS {
         return Err(TextFault::Memory);
     }
-    Ok(assemble(alloc, scopes, items.as_slice(), written)?)
+    let wide = text.language == WIDE_LANGUAGE;
+    Ok(assemble(alloc, wide, scopes, items.as_slice(), written)?)
 }

@@ -8,7 +8,7 @@ ghost use Rattle.dactl_rules.specs.Terms.{seen, AreDrawn};
 use crate::drawing::{Drawing, MOST_NODES, Sketch, Target, term};
 use crate::numbers::Numbers;
 use dactl_base::refusal::Memory;
-use dactl_syntax::tree::TermTree;
+use dactl_meaning::tree::TermTree;
 use std::alloc::{AllocError, Global};
 
 /// A contractum: what its terms make and mention, what each of them stands for, and the numbers of

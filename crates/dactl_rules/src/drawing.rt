@@ -1,10 +1,10 @@
 //! What the terms of a contractum make and mention.
 ghost use Rattle.std.specs.Prelude.{◌≡◌, ◌<◌, ◌^◌, [], ◌∷◌, IfOk, OnOk, count_by, map};
-ghost use Rattle.dactl_syntax.specs.Contractum.{term_draws, mentions_in};
+ghost use Rattle.dactl_meaning.specs.Contractum.{term_draws, mentions_in};
 ghost use Rattle.dactl_rules.specs.Drawing.{next_number, node_draws, node_mentioned, arg_draws, arg_mentioned, args_draw, args_mentioned, sketch_of, named, begun, with_arcs, made_in, mentioned_in, arc_of, Grows, Draws, DrawsArc, DrawsArcs};
 
 use dactl_base::refusal::Memory;
-use dactl_syntax::tree::{ArgTree, Marks, Name, NodeTree, TermTree};
+use dactl_meaning::tree::{ArgTree, Marks, Name, NodeTree, TermTree};
 use std::alloc::{AllocError, Global};
 
 /// How many new nodes a contractum can have. More of them are want of memory.
@@ -17,10 +17,11 @@ pub enum Target<'a> {
     Named(&'a [u8]),
 }
 
-/// What a new node is made of: an integer, or a symbol under its name.
+/// What a new node is made of: an integer, a character, or a symbol under its name.
 #[derive(Clone, Copy)]
 pub enum Core<'a> {
-    Number(i64),
+    Number(i128),
+    Character(u8),
     Of(&'a Name),
 }
 
@@ -112,6 +113,10 @@ fn node<'a>(
     match tree {
         NodeTree::Integer { value, .. } => {
             let number = drawing.begin(alloc, name, marks, Core::Number(*value))?;
+            Ok(Target::Made(number as u32))
+        }
+        NodeTree::Letter { value, .. } => {
+            let number = drawing.begin(alloc, name, marks, Core::Character(*value))?;
             Ok(Target::Made(number as u32))
         }
         NodeTree::Sym { name: symbol, args } => {

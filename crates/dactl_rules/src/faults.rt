@@ -1,8 +1,9 @@
 //! The faults of a contractum.
 ghost use Rattle.std.specs.Prelude.{◌≡◌, ◌++◌, ◌||◌, ℕ, List, OnOk, Contains, is_some, map};
 ghost use Rattle.std.specs.List.{flat_map};
-ghost use Rattle.dactl_syntax.specs.RuleFaults.{each_at, again, place_of};
-ghost use Rattle.dactl_syntax.specs.Contractum.{given_names};
+ghost use Rattle.dactl_meaning.specs.Expansion.{is_among};
+ghost use Rattle.dactl_meaning.specs.RuleFaults.{each_at, again, place_of};
+ghost use Rattle.dactl_meaning.specs.Contractum.{given_names};
 ghost use Rattle.dactl_symbols.specs.Scoping.{seen_in};
 ghost use Rattle.dactl_symbols.specs.Least.{TellsLeast};
 ghost use Rattle.dactl_rules.specs.Drawing.{core_of, sketch_of, mention_of, made_in, mentioned_in};
@@ -12,11 +13,12 @@ ghost use Rattle.dactl_rules.specs.Told as told;
 use crate::contractum::Contractum;
 use crate::drawing::{Core, Mentioned, Sketch};
 use crate::numbers::Numbers;
+use crate::suspending::is_suspending;
 use crate::variables::Variables;
 use dactl_base::refusal::{Kind, Memory, Place, Refusal};
+use dactl_meaning::tree::Marks;
 use dactl_symbols::least::lesser;
 use dactl_symbols::sight::{Scopes, Seen};
-use dactl_syntax::tree::Marks;
 use std::alloc::Global;
 
 /// How many arguments a symbol may have.
@@ -41,7 +43,7 @@ fn core_fault(faults: &mut Vec<Refusal>, holds: bool, kind: Kind, core: Core) ->
     ensures { OnOk result (faults.new.items ≡ faults.old.items ++ told.core_fault holds kind (core_of core.entry)) }
 {
     match core {
-        Core::Number(_) => Ok(()),
+        Core::Number(_) | Core::Character(_) => Ok(()),
         Core::Of(name) => fault_at(faults, holds, kind, name.place),
     }
 }
@@ -61,7 +63,7 @@ fn names_pattern(scopes: &Scopes, module: usize, core: Core) -> bool
     ensures { result ≡ told.names_pattern (seen_in scopes.now «module») (core_of core.entry) }
 {
     match core {
-        Core::Number(_) => false,
+        Core::Number(_) | Core::Character(_) => false,
         Core::Of(name) => match scopes.look(module, name.text.as_slice()) {
             Some(Seen::Pattern { .. }) => true,
             _ => false,
@@ -133,14 +135,15 @@ fn mark_fault(
     faults: &mut Vec<Refusal>,
     bound: bool,
     variable: bool,
+    root: bool,
     marks: Marks,
 ) -> Result<(), Memory>
-    ensures { OnOk result (faults.new.items ≡ faults.old.items ++ told.mark_fault bound variable marks) }
+    ensures { OnOk result (faults.new.items ≡ faults.old.items ++ told.mark_fault bound variable root marks) }
 {
     match marks {
         Marks::Plain => Ok(()),
         Marks::Star { place } => fault_at(faults, bound && !variable, Kind::MarkOnBound, place),
-        Marks::Hashes { place, .. } => fault_at(faults, bound, Kind::MarkOnBound, place),
+        Marks::Hashes { place, .. } => fault_at(faults, bound && !root, Kind::MarkOnBound, place),
     }
 }
 
@@ -148,16 +151,47 @@ fn mark_fault(
 fn mark_on_bound(
     faults: &mut Vec<Refusal>,
     variables: &Variables,
+    roots: &Variables,
     given: &Numbers,
     mentions: &[Mentioned],
 ) -> Result<(), Memory>
-    ensures { OnOk result (faults.new.items ≡ faults.old.items ++ flat_map (told.mark_at (λ w. is_some (variable_number variables.now w) || is_some (found given.now w)) (λ w. is_some (variable_number variables.now w))) (map mention_of mentions.now)) }
+    ensures { OnOk result (faults.new.items ≡ faults.old.items ++ flat_map (told.mark_at (λ w. is_some (variable_number variables.now w) || is_some (found given.now w)) (is_among variables.now) (is_among roots.now)) (map mention_of mentions.now)) }
 {
     for mention in mentions {
         let name = mention.name.text.as_slice();
         let bound = is_bound(variables, given, name);
-        let variable = variables.number(name).is_some();
-        mark_fault(faults, bound, variable, mention.marks)?;
+        let variable = variables.contains(name);
+        let root = roots.contains(name);
+        mark_fault(faults, bound, variable, root, mention.marks)?;
+    }
+    Ok(())
+}
+
+/// Adds the fault at the first mark, if it holds.
+fn fault_at_mark(faults: &mut Vec<Refusal>, holds: bool, marks: Marks) -> Result<(), Memory>
+    ensures { OnOk result (faults.new.items ≡ faults.old.items ++ told.fault_at_mark holds marks) }
+{
+    match marks {
+        Marks::Plain => Ok(()),
+        Marks::Star { place } => fault_at(faults, holds, Kind::MarkOnBound, place),
+        Marks::Hashes { place, .. } => fault_at(faults, holds, Kind::MarkOnBound, place),
+    }
+}
+
+/// Adds a `MarkOnBound` for each mention that makes the root wait again, apart from the first.
+fn suspended_again(
+    faults: &mut Vec<Refusal>,
+    roots: &Variables,
+    mentions: &[Mentioned],
+) -> Result<(), Memory>
+    ensures { OnOk result (faults.new.items ≡ faults.old.items ++ told.faults_again (told.suspensions_in roots.now (map mention_of mentions.now))) }
+{
+    let mut found = false;
+    for mention in mentions {
+        if is_suspending(roots, *mention) {
+            fault_at_mark(faults, found, mention.marks)?;
+            found = true;
+        }
     }
     Ok(())
 }
@@ -183,17 +217,19 @@ fn named_twice(
     Ok(())
 }
 
-/// Adds the faults of a contractum, kind by kind.
+/// Adds the faults of a contractum, kind by kind; `roots` are the names of its root that may have
+/// `#`.
 pub fn contractum_faults(
     alloc: Global,
     faults: &mut Vec<Refusal>,
     scopes: &Scopes,
     module: usize,
     variables: &Variables,
+    roots: &Variables,
     contractum: &Contractum,
 ) -> Result<(), Memory>
     requires { (w : List ℕ) → found contractum.now.given w ≡ node_number (made_in contractum.now.drawing) w }
-    ensures { OnOk result (faults.new.items ≡ faults.old.items ++ told.drawn_faults (seen_in scopes.now «module») variables.now (made_in contractum.now.drawing) (mentioned_in contractum.now.drawing)) }
+    ensures { OnOk result (faults.new.items ≡ faults.old.items ++ told.drawn_faults (seen_in scopes.now «module») variables.now roots.now (made_in contractum.now.drawing) (mentioned_in contractum.now.drawing)) }
 {
     let made = contractum.drawing.made.as_slice();
     let mentions = contractum.drawing.mentions.as_slice();
@@ -201,7 +237,8 @@ pub fn contractum_faults(
     unbound(faults, variables, &contractum.given, mentions)?;
     named_twice(alloc, faults, variables, made)?;
     not_creatable(faults, scopes, module, made)?;
-    mark_on_bound(faults, variables, &contractum.given, mentions)?;
+    mark_on_bound(faults, variables, roots, &contractum.given, mentions)?;
+    suspended_again(faults, roots, mentions)?;
     too_many_waits(faults, made)?;
     Ok(())
 }

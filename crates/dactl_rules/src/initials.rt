@@ -1,7 +1,7 @@
 //! The first graph of a text, and the faults of what the text says of it.
 ghost use Rattle.std.specs.Prelude.{◌≡◌, [], ◌∷◌, ◌<◌, ◌^◌, IfOk, List, ℕ, length, map, option_map, slice_get};
 ghost use Rattle.std.specs.List.{flat_map};
-ghost use Rattle.dactl_syntax.specs.Meaning.{node_number as node_number_of};
+ghost use Rattle.dactl_meaning.specs.Meaning.{node_number as node_number_of};
 ghost use Rattle.dactl_symbols.specs.Scoping.{seen_in};
 ghost use Rattle.dactl_rules.specs.Counting.{AreCountable};
 ghost use Rattle.dactl_rules.specs.Drawing.{made_in, target_of};
@@ -15,10 +15,10 @@ use crate::faults::{contractum_faults, first};
 use crate::listing::Placed;
 use crate::variables::Variables;
 use dactl_base::refusal::{Memory, Refusal};
+use dactl_meaning::tree::{Item, TermTree};
 use dactl_model::program::{Mention, Start};
 use dactl_symbols::least::lesser;
 use dactl_symbols::sight::Scopes;
-use dactl_syntax::tree::{Item, TermTree};
 use sqlite_items::Items;
 use std::alloc::Global;
 
@@ -60,7 +60,7 @@ fn terms_fault(
     let contractum = drawn(alloc, terms)?;
     let none = no_variables(alloc)?;
     let mut faults = Vec::new(alloc);
-    contractum_faults(alloc, &mut faults, scopes, owner, &none, &contractum)?;
+    contractum_faults(alloc, &mut faults, scopes, owner, &none, &none, &contractum)?;
     Ok(first(faults.as_slice()))
 }
 

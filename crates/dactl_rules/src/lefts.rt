@@ -1,10 +1,10 @@
 //! The left sides of a rule's redirections.
 ghost use Rattle.std.specs.Prelude.{◌≡◌, ◌++◌, ◌&&◌, ◌≤◌, ◌↔◌, not, All, IsTrue, IfOk, OnOk, map};
-ghost use Rattle.std.specs.List.{filter, flat_map};
+ghost use Rattle.std.specs.List.{filter, flat_map, list_any};
 ghost use Rattle.dactl_base.specs.declared.refusal.Kind.TheVariants as kinds;
 ghost use Rattle.dactl_model.specs.declared.program.Class.TheVariants as classes;
-ghost use Rattle.dactl_syntax.specs.Expansion.{is_among, number_in, is_overwritable as overwritable};
-ghost use Rattle.dactl_syntax.specs.RuleFaults.{each_at, again, place_of, lefts_of, is_class};
+ghost use Rattle.dactl_meaning.specs.Expansion.{is_among, number_in, is_overwritable as overwritable};
+ghost use Rattle.dactl_meaning.specs.RuleFaults.{each_at, again, place_of, lefts_of, is_class};
 ghost use Rattle.dactl_symbols.specs.Scoping.{class_in};
 ghost use Rattle.dactl_rules.specs.Lefts.{words, left_unbound, is_fixed, left_fixed};
 
@@ -13,9 +13,9 @@ use crate::numbers::Numbers;
 use crate::overwriting::is_overwritable;
 use crate::variables::Variables;
 use dactl_base::refusal::{Kind, Memory, Refusal};
+use dactl_meaning::tree::{Name, Part};
 use dactl_model::program::Pat;
 use dactl_symbols::sight::Scopes;
-use dactl_syntax::tree::{Name, Part};
 use std::alloc::Global;
 
 /// The left sides of the parts.
@@ -29,6 +29,18 @@ pub fn lefts<'a>(alloc: Global, parts: &'a [Part]) -> Result<Vec<&'a Name>, Memo
         }
     }
     Ok(lefts)
+}
+
+/// Whether one of the left sides is among these names of the root.
+pub fn redirect_root(roots: &Variables, lefts: &[&Name]) -> bool
+    ensures { result ≡ list_any (λ n. is_among roots.now n.text) (words lefts.now) }
+{
+    for left in lefts {
+        if roots.contains(left.text.as_slice()) {
+            return true;
+        }
+    }
+    false
 }
 
 /// Adds an `Unbound` for each left side that is no variable.

@@ -16,6 +16,7 @@ mod overwriting;
 mod reading;
 mod roots;
 mod rule;
+mod suspending;
 mod variables;
 
 pub use compiling::program;

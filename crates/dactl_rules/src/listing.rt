@@ -1,11 +1,11 @@
 //! The items of a text, one after another.
 ghost use Rattle.std.specs.Prelude.{◌≡◌, ◌++◌, IfOk, OnOk, map};
 ghost use Rattle.std.specs.List.{enumerate_from};
-ghost use Rattle.dactl_syntax.specs.Declarations.{items as items_in};
+ghost use Rattle.dactl_meaning.specs.Declarations.{items as items_in};
 ghost use Rattle.dactl_rules.specs.Listing.{placed, placed_in};
 
 use dactl_base::refusal::Memory;
-use dactl_syntax::tree::{Item, Text};
+use dactl_meaning::tree::{Item, Text};
 use std::alloc::Global;
 
 /// An item of a text: the number of its module, and its own number there.

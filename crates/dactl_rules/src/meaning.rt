@@ -1,21 +1,21 @@
 //! What a contractum without faults means.
 ghost use Rattle.std.specs.Prelude.{◌≡◌, ◌++◌, ◌<◌, ◌≤◌, ◌^◌, ◌&&◌, List, [], ◌∷◌, IfOk, OnOk, length, map};
 ghost use Rattle.std.specs.List.{filter_map};
-ghost use Rattle.dactl_syntax.specs.Contractum.{denotes, name_denotes, label_of, mark_of, fresh_of, left_of_part, term_of_part, moves_of};
+ghost use Rattle.dactl_meaning.specs.Contractum.{denotes, name_denotes, label_of, mark_of, fresh_of, left_of_part, term_of_part, moves_of};
 ghost use Rattle.dactl_symbols.specs.Scoping.{seen_in};
 ghost use Rattle.dactl_rules.specs.Drawing.{target_of, core_of, arc_of, sketch_of, mention_of, made_in, mentioned_in};
 ghost use Rattle.dactl_rules.specs.Terms.{IsReady, AreDrawn};
-ghost use Rattle.dactl_syntax.specs.Expansion.{number_in};
+ghost use Rattle.dactl_meaning.specs.Expansion.{number_in};
 ghost use Rattle.dactl_rules.specs.Meant.{arc_meant, wake_of, moves_by, root_by};
 
 use crate::contractum::Contractum;
 use crate::drawing::{Core, Mentioned, Sketch, SketchArc, Target};
 use crate::variables::Variables;
 use dactl_base::refusal::Memory;
+use dactl_meaning::tree::{Marks, Part};
 use dactl_model::graph::{Label, Mark};
 use dactl_model::program::{FreshArc, FreshNode, Left, Mention, Move};
 use dactl_symbols::sight::{Scopes, Seen};
-use dactl_syntax::tree::{Marks, Part};
 use sqlite_items::Items;
 use std::alloc::{AllocError, Global};
 
@@ -24,6 +24,7 @@ fn label(scopes: &Scopes, module: usize, core: Core) -> Label
 {
     match core {
         Core::Number(value) => Label::Integer(value),
+        Core::Character(value) => Label::Character(value),
         Core::Of(name) => match scopes.look(module, name.text.as_slice()) {
             Some(Seen::Symbol { id, .. }) => Label::Symbol(id),
             _ => Label::Symbol(0),

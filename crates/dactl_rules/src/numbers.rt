@@ -1,16 +1,17 @@
 //! Numbers of names.
 ghost use Rattle.std.specs.Prelude.{◌≡◌, [], IfOk, OnOk, is_none};
-ghost use Rattle.dactl_rules.specs.Numbers.{found, noted};
+ghost use Rattle.dactl_rules.specs.Numbers.{found, Notes};
 
 use dactl_base::refusal::Memory;
-use indexmap::IndexMap;
 use std::alloc::Global;
+use std::collections::BTreeMap;
 use std::marker::Model;
 
-/// Numbers of names: each name has the one that it was given first.
+/// Numbers of names: each name has the one that it was given first. They are kept by the order of
+/// names: a text chooses its names, and could choose them for a hash.
 #[derive(Drop)]
 pub struct Numbers {
-    by_name: IndexMap<Vec<u8>, usize>,
+    by_name: BTreeMap<Vec<u8>, usize>,
 }
 
 impl Model for Numbers {
@@ -26,7 +27,7 @@ impl Numbers {
         ensures { result ≡ [] }
     {
         Numbers {
-            by_name: IndexMap::new(alloc),
+            by_name: BTreeMap::new(alloc),
         }
     }
 
@@ -40,7 +41,7 @@ impl Numbers {
     /// Gives the name this number, unless it has one, and tells whether it had none.
     pub fn note(&mut self, alloc: Global, name: &[u8], number: usize) -> Result<bool, Memory>
         ensures new { IfOk result (λ is_new. is_new ≡ is_none (found self.old name.now)) }
-        ensures after { OnOk result (self.new ≡ noted self.old name.now number) }
+        ensures after { OnOk result (Notes name.now number self.old self.new) }
     {
         if self.by_name.contains_key(name) {
             return Ok(false);

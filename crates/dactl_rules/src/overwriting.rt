@@ -1,7 +1,7 @@
 //! Which variables of a pattern stand for over-writable nodes.
 ghost use Rattle.std.specs.Prelude.{◌≡◌, ℕ, map};
 ghost use Rattle.dactl_model.specs.declared.program.Class.TheVariants as classes;
-ghost use Rattle.dactl_syntax.specs.RuleFaults.{is_class};
+ghost use Rattle.dactl_meaning.specs.RuleFaults.{is_class};
 ghost use Rattle.dactl_symbols.specs.Scoping.{class_in};
 ghost use Rattle.dactl_rules.specs.Writing.{is_so, gives, some_give};
 
@@ -31,7 +31,7 @@ fn holds_at_overwritable(scopes: &Scopes, owner: usize, variable: usize, pattern
     ensures { result ≡ is_so (λ f. is_class classes.Overwritable (class_in scopes.now owner f)) variable pattern.now }
 {
     match pattern {
-        Pat::Any | Pat::Int | Pat::Literal(_) => false,
+        Pat::Any | Pat::Int | Pat::Char | Pat::Literal(_) | Pat::Letter(_) => false,
         Pat::Sym { symbol, .. } => is_overwritable_symbol(scopes, owner, *symbol),
         Pat::Bind { inner, .. } => holds_at_overwritable(scopes, owner, variable, inner.get()),
         Pat::Union { left, right } => {
@@ -48,7 +48,7 @@ pub fn is_overwritable(scopes: &Scopes, owner: usize, variable: usize, pattern: 
     ensures { result ≡ gives (λ f. is_class classes.Overwritable (class_in scopes.now owner f)) variable pattern.now }
 {
     match pattern {
-        Pat::Any | Pat::Int | Pat::Literal(_) => false,
+        Pat::Any | Pat::Int | Pat::Char | Pat::Literal(_) | Pat::Letter(_) => false,
         Pat::Sym { args, .. } => in_arguments(scopes, owner, variable, args.as_slice()),
         Pat::Bind { var, inner } => {
             let here = *var as usize == variable

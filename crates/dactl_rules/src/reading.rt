@@ -1,28 +1,31 @@
 //! What is read of a rule before its pattern is expanded.
 ghost use Rattle.std.specs.Prelude.{◌≡◌, IfOk, map};
-ghost use Rattle.dactl_syntax.specs.Contractum.{term_of_part};
-ghost use Rattle.dactl_syntax.specs.Expansion as spec;
+ghost use Rattle.dactl_meaning.specs.Contractum.{term_of_part};
+ghost use Rattle.dactl_meaning.specs.Expansion as spec;
+ghost use Rattle.dactl_meaning.specs.RuleFaults.{lefts_of, suspendable as suspendable_names};
+ghost use Rattle.dactl_rules.specs.Lefts.{words};
 ghost use Rattle.dactl_patterns.specs.Table.{AreNamed};
 ghost use Rattle.dactl_rules.specs.Terms.{seen};
 ghost use Rattle.dactl_rules.specs.Reading.{IsRead};
 
 use crate::contractum::{Contractum, draw};
-use crate::lefts::lefts;
+use crate::lefts::{lefts, redirect_root};
 use crate::roots::root_names;
 use crate::variables::Variables;
 use dactl_base::refusal::Memory;
+use dactl_meaning::tree::{Name, Part, PatternTree, RuleTree, TermTree};
 use dactl_patterns::{NamedPatterns, head_symbol};
-use dactl_syntax::tree::{Name, Part, PatternTree, RuleTree, TermTree};
 use sqlite_items::Items;
 use std::alloc::Global;
 
-/// The symbol at the head of a rule, its variables, the names of its root, its left sides and its
-/// contractum.
+/// The symbol at the head of a rule, its variables, the names of its root, those among them that may
+/// have `#`, its left sides and its contractum.
 #[derive(Drop)]
 pub struct RuleParts<'a> {
     pub head: Option<u32>,
     pub variables: Variables,
     pub roots: Variables,
+    pub suspendable: Variables,
     pub lefts: Vec<&'a Name>,
     pub contractum: Contractum<'a>,
 }
@@ -54,6 +57,24 @@ fn roots_of(alloc: Global, tree: &PatternTree) -> Result<Variables, Memory>
     Variables::new(alloc, names)
 }
 
+/// The names of the root that may have `#`: all, where the rule does not redirect its root.
+fn suspendable(
+    alloc: Global,
+    tree: &RuleTree,
+    roots: &Variables,
+    lefts: &[&Name],
+) -> Result<Variables, Memory>
+    requires roots { roots.now ≡ spec.root_names tree.now.pattern }
+    requires lefts { words lefts.now ≡ lefts_of tree.now.parts }
+    ensures { IfOk result (λ names. names ≡ suspendable_names tree.now) }
+{
+    if tree.redirects || redirect_root(roots, lefts) {
+        Variables::new(alloc, Items::new(alloc))
+    } else {
+        roots_of(alloc, &tree.pattern)
+    }
+}
+
 /// Reads a rule of the module, whose pattern has these variables.
 pub fn read<'a>(
     alloc: Global,
@@ -70,12 +91,14 @@ pub fn read<'a>(
     let variables = Variables::new(alloc, variables)?;
     let roots = roots_of(alloc, &tree.pattern)?;
     let lefts = lefts(alloc, tree.parts.as_slice())?;
+    let suspendable = suspendable(alloc, tree, &roots, lefts.as_slice())?;
     let terms = terms(alloc, tree.parts.as_slice())?;
     let contractum = draw(alloc, terms.as_slice())?;
     Ok(RuleParts {
         head,
         variables,
         roots,
+        suspendable,
         lefts,
         contractum,
     })

@@ -1,10 +1,10 @@
 //! The names of a rule's root.
 ghost use Rattle.std.specs.Prelude.{◌≡◌, ◌++◌, OnOk};
-ghost use Rattle.dactl_syntax.specs.Expansion.{root_names as names_of_root};
+ghost use Rattle.dactl_meaning.specs.Expansion.{root_names as names_of_root};
 
 use dactl_base::refusal::Memory;
+use dactl_meaning::tree::PatternTree;
 use dactl_patterns::occurrences::has_plus;
-use dactl_syntax::tree::PatternTree;
 use sqlite_items::Items;
 use std::alloc::Global;
 
@@ -19,7 +19,9 @@ pub fn root_names(
     match tree {
         PatternTree::Any
         | PatternTree::Int
+        | PatternTree::Char
         | PatternTree::Integer { .. }
+        | PatternTree::Letter { .. }
         | PatternTree::Sym { .. } => Ok(()),
         PatternTree::Variable { name } => {
             names.push(Items::from_slice(alloc, name.text.as_slice())?)?;

@@ -2,10 +2,10 @@
 ghost use Rattle.std.specs.Prelude.{◌≡◌, ◌≤◌, ◌++◌, ◌⊎◌, ℕ, List, Contains, IfOk, length, map};
 ghost use Rattle.std.specs.List.{flat_map};
 ghost use Rattle.dactl_model.specs.declared.program.Class.TheVariants as classes;
-ghost use Rattle.dactl_syntax.specs.Contractum.{term_of_part};
-ghost use Rattle.dactl_syntax.specs.Faults.{TellsFaults};
-ghost use Rattle.dactl_syntax.specs.Meaning.{rule_of};
-ghost use Rattle.dactl_syntax.specs.RuleFaults.{head_is, is_class, rule_faults};
+ghost use Rattle.dactl_meaning.specs.Contractum.{term_of_part};
+ghost use Rattle.dactl_meaning.specs.Faults.{TellsFaults};
+ghost use Rattle.dactl_meaning.specs.Meaning.{rule_of};
+ghost use Rattle.dactl_meaning.specs.RuleFaults.{head_is, is_class, rule_faults};
 ghost use Rattle.dactl_base.specs.declared.refusal.Refusal.{Refusal};
 ghost use Rattle.dactl_symbols.specs.Least.{TellsLeast};
 ghost use Rattle.dactl_symbols.specs.Scoping.{class_in};
@@ -20,13 +20,14 @@ use crate::faults::{contractum_faults, fault_at, first};
 use crate::lefts::{are_behind, not_overwritable, redirected_twice, unbound};
 use crate::overwriting::is_rewritable;
 use crate::reading::{RuleParts, read};
+use crate::suspending::suspend;
 use crate::variables::Variables;
 use dactl_base::refusal::{Kind, Memory, Place, Refusal, TextFault};
+use dactl_meaning::tree::{Name, RuleTree};
 use dactl_model::program::{Body, Pat, Rule};
 use dactl_patterns::{Examined, NamedPatterns, examine};
 use dactl_symbols::least::lesser;
 use dactl_symbols::sight::Scopes;
-use dactl_syntax::tree::{Name, RuleTree};
 use sqlite_items::Items;
 use std::alloc::Global;
 
@@ -60,6 +61,7 @@ fn early_faults(
         scopes,
         owner,
         &parts.variables,
+        &parts.suspendable,
         &parts.contractum,
     )?;
     let lefts = parts.lefts.as_slice();
@@ -101,10 +103,13 @@ fn meant(
     let fresh = contractum.fresh(alloc, scopes, owner, variables)?;
     let moves = contractum.moves(alloc, variables, tree.redirects, tree.parts.as_slice())?;
     let wakes = contractum.wakes(alloc, variables)?;
+    let mentions = contractum.drawing.mentions.as_slice();
+    let suspend = suspend(&parts.suspendable, mentions);
     let body = Body::Written {
         fresh,
         moves,
         wakes,
+        suspend,
     };
     let symbol = match parts.head {
         Some(symbol) => symbol,

@@ -1,5 +1,6 @@
 //! The variables of a pattern, by their numbers.
 ghost use Rattle.std.specs.Prelude.{◌≡◌, ◌≤◌, IfOk, length};
+ghost use Rattle.dactl_meaning.specs.Expansion.{is_among};
 ghost use Rattle.dactl_rules.specs.Numbers.{variable_number};
 
 use crate::numbers::Numbers;
@@ -54,6 +55,13 @@ impl Variables {
             Some(number) => Some(number as u8),
             None => None,
         }
+    }
+
+    /// Whether there is a variable of that name.
+    pub fn contains(&self, name: &[u8]) -> bool
+        ensures { result ≡ is_among self.now name.now }
+    {
+        self.number(name).is_some()
     }
 
     pub fn count(&self) -> usize

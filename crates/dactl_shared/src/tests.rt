@@ -59,6 +59,7 @@ fn program(alloc: Global) -> Result<Program, Memory> {
         symbols: symbols(alloc)?,
         rules: rules(alloc)?,
         start: Start { fresh, root: 0 },
+        wide: false,
     })
 }
 

@@ -1,5 +1,8 @@
 //! A whole call over a text in memory, and what is asked of its answer.
 
+ghost use Rattle.std.specs.Prelude.{IfSome};
+ghost use Rattle.dactl_model.specs.Programs.{IsValid};
+
 use dactl_base::memory::{MemorySink, SteadySource};
 use dactl_model::graph::Entry;
 use dactl_model::program::Program;
@@ -8,7 +11,7 @@ use dactl_plain::replay;
 use dactl_top::dactl;
 use dactl_top::kept::Kept;
 use dactl_top::status::Status;
-use dactl_workers::Gate;
+use dactl_workers::{Gate, OpenGate};
 use std::alloc::{AllocError, Global};
 use std::sync::Wait;
 use std::thread::Threads;
@@ -44,6 +47,19 @@ pub fn called<R: Threads + Wait + Sync, G: Gate + Sync>(
     let mut kept = Kept::empty(alloc);
     let status = dactl(rt, alloc, &words, &mut source, &mut sink, gate, &mut kept);
     Ok(Answered { status, kept, sink })
+}
+
+/// The program that the text means, where it means one.
+pub fn compiled<R: Threads + Wait + Sync>(rt: &R, alloc: Global, text: &str) -> Option<Program>
+    ensures { IfSome result IsValid }
+{
+    let mut answered = called(rt, alloc, "--check", text, &OpenGate).ok()?;
+    let program = answered.kept.program.take()?;
+    if is_valid(&program) {
+        Some(program)
+    } else {
+        None
+    }
 }
 
 /// Whether the journal is, step by step, a run of the program.

@@ -14,20 +14,20 @@ use Rattle.dactl_model.specs.declared.program.Program.{Program}
 use Rattle.dactl_model.specs.declared.reading.Reading.{Reading}
 use Rattle.dactl_model.specs.Graphs.{HasNode}
 use Rattle.dactl_model.specs.Programs.{IsValid}
-use Rattle.dactl_model.specs.Firing.{start_of, fired, rewritten, old_nodes, fresh_node, redirection, new_nodes, redirections, woken_variables}
+use Rattle.dactl_model.specs.Firing.{start_of, fired, rewritten, old_nodes, fresh_node, redirection, new_nodes, redirections, woken_variables, suspension}
 use Rattle.dactl_model.specs.Steps.{Step, Reduction}
 use Rattle.dactl_model.specs.Versions.{content, content_read, IsShown}
 use Rattle.dactl_model.proofs.KeptNote.{length-noted_nodes}
 use Rattle.dactl_model.proofs.KeptFire.{length-old_nodes, begins_well_formed}
 use Rattle.dactl_model.proofs.Reductions.{Reduction-split, same_reduction}
 
-rewritten_long : (g : Graph) (n : NodeId) (h : List NodeId) (fresh : List FreshNode) (moves : List Move) (wakes : List ℕ) → length g.nodes ≤ length (rewritten g n h fresh moves wakes).nodes
-rewritten_long g n h fresh moves wakes = let m = length g.nodes in let f = redirection m n h moves in
-    let a : length (rewritten g n h fresh moves wakes).nodes ≡ length (old_nodes f n h wakes 0 g.nodes) + length (map (fresh_node m h f) fresh) = length-append (old_nodes f n h wakes 0 g.nodes) (map (fresh_node m h f) fresh) in
-    let b : length (old_nodes f n h wakes 0 g.nodes) ≡ length g.nodes = length-old_nodes f n h wakes 0 g.nodes in omega arith
+rewritten_long : (g : Graph) (n : NodeId) (h : List NodeId) (fresh : List FreshNode) (moves : List Move) (wakes : List ℕ) (suspend : ℕ) → length g.nodes ≤ length (rewritten g n h fresh moves wakes suspend).nodes
+rewritten_long g n h fresh moves wakes suspend = let m = length g.nodes in let f = redirection m n h moves in
+    let a : length (rewritten g n h fresh moves wakes suspend).nodes ≡ length (old_nodes f n h wakes suspend 0 g.nodes) + length (map (fresh_node m h f) fresh) = length-append (old_nodes f n h wakes suspend 0 g.nodes) (map (fresh_node m h f) fresh) in
+    let b : length (old_nodes f n h wakes suspend 0 g.nodes) ≡ length g.nodes = length-old_nodes f n h wakes suspend 0 g.nodes in omega arith
 
 fired_long : (g : Graph) (n : NodeId) (h : List NodeId) (body : Body) → length g.nodes ≤ length (fired g n h body).nodes
-fired_long g n h body = rewritten_long g n h (new_nodes body g h) (redirections body) (woken_variables body)
+fired_long g n h body = rewritten_long g n h (new_nodes body g h) (redirections body) (woken_variables body) (suspension body)
 
 -- a step, and so a journal, takes no node away
 pub step_long : (p : Program) (g after : Graph) (e : Event) → Step p g e after → length g.nodes ≤ length after.nodes

@@ -12,7 +12,7 @@ use dactl_model::program::Program;
 use dactl_model::reading::Reading;
 use dactl_model::validity::is_valid;
 use dactl_store::BeginCause;
-use programs::program;
+use programs::{program, suspending};
 use showing::{shows_fire, shows_note};
 use std::alloc::Global;
 use std::test::Fail;
@@ -240,6 +240,30 @@ fn ends_by_the_budget(alloc: Global, program: &Program) -> bool {
 fn a_budget_of_one_ends_after_one(rt: HostRuntime) -> Result<(), Fail> {
     let program = program(rt.alloc())?;
     assert!(&rt; ends_by_the_budget(rt.alloc(), &program));
+    Ok(())
+}
+
+/// Whether node 1, which has no arc to wait along, stays active where its rule fires, and may fire again by
+/// what was read of it before.
+fn stays_active(alloc: Global, program: &Program) -> bool {
+    let Some((mut state, mut woken)) = begin(alloc, program, limits(2, 1, 2)) else {
+        return false;
+    };
+    let Some(call) = read(&state, 1) else {
+        return false;
+    };
+    fires(alloc, &mut state, program, call, &mut woken) == Some(Answer::Committed)
+        && woken.list() == [id(1)].as_slice()
+        && fires(alloc, &mut state, program, call, &mut woken) == Some(Answer::Committed)
+        && woken.list() == [id(1)].as_slice()
+        && state.end() == Some(End::Budget)
+}
+
+/// No version grows where a node waits again.
+#[test]
+fn a_root_may_stay_active(rt: HostRuntime) -> Result<(), Fail> {
+    let program = suspending(rt.alloc())?;
+    assert!(&rt; stays_active(rt.alloc(), &program));
     Ok(())
 }
 

@@ -2,6 +2,7 @@
 use Rattle.std.proofs.Common.{◌≡◌, ℕ, zero, suc, ◌+◌, ◌-◌, ◌<◌, ◌≤◌, Bool, true, false, not, ◌&&◌, cond, eqb, leb, List, [], ◌∷◌, ◌++◌, length, count_by, IsTrue, Some, refl, sym, ap, ◌∙◌, arith, subst, inl, inr, length-set}
 use Rattle.std.specs.List.{slice_get}
 use Rattle.std.proofs.lemmas.Bool.{eqb-true, eqb-false, eq-eqb, ne_eqb, cases_Bool, both_ways, and_parts}
+use Rattle.std.proofs.Math.Bool.{and_assoc}
 use Rattle.std.proofs.lemmas.Bool.Decides.{nat_tests}
 use Rattle.std.proofs.lemmas.Option.{slice_get_within, get_or_from_slice_get}
 use Rattle.std.proofs.lemmas.List.{map-append, length-map, length_push}
@@ -20,7 +21,7 @@ use Rattle.dactl_model.specs.Noting.{noted_mark}
 use Rattle.dactl_model.proofs.Counting.{count_by-cons}
 use Rattle.dactl_store.specs.declared.table.NodeRecord.{NodeRecord}
 use Rattle.dactl_store.specs.Table.{Table, record_of, is_active}
-use Rattle.dactl_store.specs.Notifying.{HasOwners, notified, notified_along, wakes_owner, AreNotified, numbers, IsWokenList}
+use Rattle.dactl_store.specs.Notifying.{HasOwners, notified, notified_at, wakes_owner, AreNotified, numbers, IsWokenList}
 use Rattle.dactl_store.proofs.Rings.{record_of-set, has_push}
 use Rattle.dactl_store.proofs.Counting.{count_same, count_walk}
 
@@ -52,9 +53,9 @@ pub owner_below : (records : List NodeRecord) (arcs : List ArcRecord) (i : ℕ) 
 owner_below records arcs i found all at =
     subst (λ a. a.owner < length records) (get_or_from_slice_get arcs i found found at) (all i found (slice_get_within arcs i found at))
 
--- along how many of the arcs of a walk m waits
+-- how many of the arcs of a walk are those of m
 abbrev pub along : List ArcRecord → List ℕ → ℕ → ℕ
-along arcs walk m = count_by (λ i. (record_at arcs i).waits && eqb (record_at arcs i).owner m) walk
+along arcs walk m = count_by (λ i. eqb (record_at arcs i).owner m) walk
 
 -- with the notifications along the rest of the walk each node is notified as along the whole, and the list has those that became active
 pub record IsNotifying (arcs : List ArcRecord) (walk : List ℕ) (old : Table) (rest : List ℕ) (now : Table) (list : List NodeId) : Type 0 where
@@ -104,41 +105,28 @@ marks_more Idle is = is
 marks_more Active is = refl
 marks_more (Waiting k) is = absurd (both_ways false refl is)
 
--- the records after a notification along an arc
-module _ (arc : ArcRecord) (records : List NodeRecord) (below : arc.owner < length records) where
-  pub waited : arc.waits ≡ true → (m : ℕ) → record_of (notified_along arc records) m ≡ cond (eqb m arc.owner) (notified 1 (record_of records arc.owner)) (record_of records m)
-  waited waits m = rw waits (record_of-set records arc.owner m (notified 1 (record_of records arc.owner)) below)
-
-  pub idled : arc.waits ≡ false → (m : ℕ) → record_of (notified_along arc records) m ≡ record_of records m
-  idled idle m = rw idle refl
-
-  length_along : length (notified_along arc records) ≡ length records
-  length_along = elim (cases_Bool arc.waits) [
-    | inl waits ↦ rw waits (length-set records arc.owner (notified 1 (record_of records arc.owner)))
-    | inr idle ↦ rw idle refl
-  ]
+-- the records after the owner of an arc is notified
+module _ (owner : ℕ) (records : List NodeRecord) (below : owner < length records) where
+  pub notified_there : (m : ℕ) → record_of (notified_at owner records) m ≡ cond (eqb m owner) (notified 1 (record_of records owner)) (record_of records m)
+  notified_there m = record_of-set records owner m (notified 1 (record_of records owner)) below
 
   -- who is active stays so
-  active_along : (m : ℕ) → is_active records m ≡ true → is_active (notified_along arc records) m ≡ true
-  active_along m active = elim (cases_Bool arc.waits) [
-    | inl waits ↦ elim (cases_Bool (eqb m arc.owner)) [
-      | inl same ↦
-          let e : m ≡ arc.owner = eqb-true m arc.owner same in
-          ap (λ r. marks_active r.mark) (waited waits m ∙ ap (λ b. cond b (notified 1 (record_of records arc.owner)) (record_of records m)) same)
-          ∙ marks_more (record_of records arc.owner).mark (sym (ap (is_active records) e) ∙ active)
-      | inr other ↦ ap (λ r. marks_active r.mark) (waited waits m ∙ ap (λ b. cond b (notified 1 (record_of records arc.owner)) (record_of records m)) other) ∙ active
-    ]
-    | inr idle ↦ ap (λ r. marks_active r.mark) (idled idle m) ∙ active
+  active_stays : (m : ℕ) → is_active records m ≡ true → is_active (notified_at owner records) m ≡ true
+  active_stays m active = elim (cases_Bool (eqb m owner)) [
+    | inl same ↦
+        let e : m ≡ owner = eqb-true m owner same in
+        ap (λ r. marks_active r.mark) (notified_there m ∙ ap (λ b. cond b (notified 1 (record_of records owner)) (record_of records m)) same)
+        ∙ marks_more (record_of records owner).mark (sym (ap (is_active records) e) ∙ active)
+    | inr other ↦ ap (λ r. marks_active r.mark) (notified_there m ∙ ap (λ b. cond b (notified 1 (record_of records owner)) (record_of records m)) other) ∙ active
   ]
 
   -- the owner that is woken is active, and nobody else's activity is changed
-  woken_along : wakes_owner arc records ≡ true → (m : ℕ) → is_active (notified_along arc records) m ≡ cond (eqb m arc.owner) true (is_active records m)
-  woken_along wakes m =
-      let parts = and_parts arc.waits (marks_active (noted_mark 1 (record_of records arc.owner).mark) && not (marks_active (record_of records arc.owner).mark)) wakes in
-      let active = (and_parts (marks_active (noted_mark 1 (record_of records arc.owner).mark)) (not (marks_active (record_of records arc.owner).mark)) parts.1).0 in
-      elim (cases_Bool (eqb m arc.owner)) [
-        | inl same ↦ rw same (ap (λ r. marks_active r.mark) (waited parts.0 m ∙ ap (λ b. cond b (notified 1 (record_of records arc.owner)) (record_of records m)) same) ∙ active)
-        | inr other ↦ rw other (ap (λ r. marks_active r.mark) (waited parts.0 m ∙ ap (λ b. cond b (notified 1 (record_of records arc.owner)) (record_of records m)) other))
+  woken_there : wakes_owner owner records ≡ true → (m : ℕ) → is_active (notified_at owner records) m ≡ cond (eqb m owner) true (is_active records m)
+  woken_there wakes m =
+      let active = (and_parts (marks_active (noted_mark 1 (record_of records owner).mark)) (not (marks_active (record_of records owner).mark)) wakes).0 in
+      elim (cases_Bool (eqb m owner)) [
+        | inl same ↦ rw same (ap (λ r. marks_active r.mark) (notified_there m ∙ ap (λ b. cond b (notified 1 (record_of records owner)) (record_of records m)) same) ∙ active)
+        | inr other ↦ rw other (ap (λ r. marks_active r.mark) (notified_there m ∙ ap (λ b. cond b (notified 1 (record_of records owner)) (record_of records m)) other))
       ]
 
   not_woken : (a b : Bool) → (b ≡ true → a ≡ true) → (a && not b) ≡ false → a ≡ b
@@ -147,65 +135,54 @@ module _ (arc : ArcRecord) (records : List NodeRecord) (below : arc.owner < leng
   not_woken false true more is = more refl
   not_woken false false more is = refl
 
-  passive_along : wakes_owner arc records ≡ false → (m : ℕ) → is_active (notified_along arc records) m ≡ is_active records m
-  passive_along sleeps m = elim (cases_Bool arc.waits) [
-    | inl waits ↦ elim (cases_Bool (eqb m arc.owner)) [
-      | inl same ↦
-          let e : m ≡ arc.owner = eqb-true m arc.owner same in
-          let none : (marks_active (noted_mark 1 (record_of records arc.owner).mark) && not (marks_active (record_of records arc.owner).mark)) ≡ false = sym (ap (λ w. w && (marks_active (noted_mark 1 (record_of records arc.owner).mark) && not (marks_active (record_of records arc.owner).mark))) waits) ∙ sleeps in
-          ap (λ r. marks_active r.mark) (waited waits m ∙ ap (λ b. cond b (notified 1 (record_of records arc.owner)) (record_of records m)) same)
-          ∙ not_woken (marks_active (noted_mark 1 (record_of records arc.owner).mark)) (marks_active (record_of records arc.owner).mark) (marks_more (record_of records arc.owner).mark) none
-          ∙ ap (is_active records) (sym e)
-      | inr other ↦ ap (λ r. marks_active r.mark) (waited waits m ∙ ap (λ b. cond b (notified 1 (record_of records arc.owner)) (record_of records m)) other)
-    ]
-    | inr idle ↦ ap (λ r. marks_active r.mark) (idled idle m)
+  passive_there : wakes_owner owner records ≡ false → (m : ℕ) → is_active (notified_at owner records) m ≡ is_active records m
+  passive_there sleeps m = elim (cases_Bool (eqb m owner)) [
+    | inl same ↦
+        let e : m ≡ owner = eqb-true m owner same in
+        ap (λ r. marks_active r.mark) (notified_there m ∙ ap (λ b. cond b (notified 1 (record_of records owner)) (record_of records m)) same)
+        ∙ not_woken (marks_active (noted_mark 1 (record_of records owner).mark)) (marks_active (record_of records owner).mark) (marks_more (record_of records owner).mark) sleeps
+        ∙ ap (is_active records) (sym e)
+    | inr other ↦ ap (λ r. marks_active r.mark) (notified_there m ∙ ap (λ b. cond b (notified 1 (record_of records owner)) (record_of records m)) other)
   ]
 
 -- one more arc of the walk
 each_step : (arcs : List ArcRecord) (i m : ℕ) (rest : List ℕ) (found : ArcRecord) (records : List NodeRecord) → record_at arcs i ≡ found → found.owner < length records
-    → notified (along arcs rest m) (record_of (notified_along found records) m) ≡ notified (along arcs (i ∷ rest) m) (record_of records m)
+    → notified (along arcs rest m) (record_of (notified_at found.owner records) m) ≡ notified (along arcs (i ∷ rest) m) (record_of records m)
 each_step arcs i m rest found records at below =
-    let count : along arcs (i ∷ rest) m ≡ cond (found.waits && eqb found.owner m) 1 0 + along arcs rest m =
-    count_by-cons (λ j. (record_at arcs j).waits && eqb (record_at arcs j).owner m) i rest ∙ ap (λ a. cond (a.waits && eqb a.owner m) 1 0 + along arcs rest m) at in
-    elim (cases_Bool found.waits) [
-      | inl waits ↦ elim (cases_Bool (eqb found.owner m)) [
-        | inl same ↦
-            let e : found.owner ≡ m = eqb-true found.owner m same in
-            let one : along arcs (i ∷ rest) m ≡ 1 + along arcs rest m = count ∙ ap (λ b. cond (b && eqb found.owner m) 1 0 + along arcs rest m) waits ∙ ap (λ b. cond b 1 0 + along arcs rest m) same in
-            ap (notified (along arcs rest m)) (waited found records below waits m ∙ ap (λ b. cond b (notified 1 (record_of records found.owner)) (record_of records m)) (eq-eqb m found.owner (sym e)) ∙ ap (λ k. notified 1 (record_of records k)) e)
-            ∙ ap (λ mark. record (record_of records m) { mark = mark }) (sym (noted_more (along arcs rest m) (record_of records m).mark))
-            ∙ ap (λ c. notified c (record_of records m)) (sym one)
-        | inr other ↦
-            let none : along arcs (i ∷ rest) m ≡ along arcs rest m = count ∙ ap (λ b. cond (b && eqb found.owner m) 1 0 + along arcs rest m) waits ∙ ap (λ b. cond b 1 0 + along arcs rest m) other ∙ omega arith in
-            ap (notified (along arcs rest m)) (waited found records below waits m ∙ ap (λ b. cond b (notified 1 (record_of records found.owner)) (record_of records m)) (ne_eqb m found.owner (λ e. eqb-false found.owner m other (sym e))))
-            ∙ ap (λ c. notified c (record_of records m)) (sym none)
-      ]
-      | inr idle ↦
-          let none : along arcs (i ∷ rest) m ≡ along arcs rest m = count ∙ ap (λ b. cond (b && eqb found.owner m) 1 0 + along arcs rest m) idle ∙ omega arith in
-          ap (notified (along arcs rest m)) (idled found records below idle m) ∙ ap (λ c. notified c (record_of records m)) (sym none)
+    let count : along arcs (i ∷ rest) m ≡ cond (eqb found.owner m) 1 0 + along arcs rest m =
+    count_by-cons (λ j. eqb (record_at arcs j).owner m) i rest ∙ ap (λ a. cond (eqb a.owner m) 1 0 + along arcs rest m) at in
+    elim (cases_Bool (eqb found.owner m)) [
+      | inl same ↦
+          let e : found.owner ≡ m = eqb-true found.owner m same in
+          let one : along arcs (i ∷ rest) m ≡ 1 + along arcs rest m = count ∙ ap (λ b. cond b 1 0 + along arcs rest m) same in
+          ap (notified (along arcs rest m)) (notified_there found.owner records below m ∙ ap (λ b. cond b (notified 1 (record_of records found.owner)) (record_of records m)) (eq-eqb m found.owner (sym e)) ∙ ap (λ k. notified 1 (record_of records k)) e)
+          ∙ ap (λ mark. record (record_of records m) { mark = mark }) (sym (noted_more (along arcs rest m) (record_of records m).mark))
+          ∙ ap (λ c. notified c (record_of records m)) (sym one)
+      | inr other ↦
+          let none : along arcs (i ∷ rest) m ≡ along arcs rest m = count ∙ ap (λ b. cond b 1 0 + along arcs rest m) other ∙ omega arith in
+          ap (notified (along arcs rest m)) (notified_there found.owner records below m ∙ ap (λ b. cond b (notified 1 (record_of records found.owner)) (record_of records m)) (ne_eqb m found.owner (λ e. eqb-false found.owner m other (sym e))))
+          ∙ ap (λ c. notified c (record_of records m)) (sym none)
     ]
 
 module _ (arcs : List ArcRecord) (walk rest behind : List ℕ) (i : ℕ) (found : ArcRecord) (old now new : Table) (list list' : List NodeId) (is : IsNotifying arcs walk old rest now list) (at : rest ≡ i ∷ behind)
-    (read : slice_get arcs i ≡ Some found) (below : found.owner < length now.records) (written : new.records ≡ notified_along found now.records)
-    (listed : list' ≡ (cond (wakes_owner found now.records) (list ++ record { number = found.owner } ∷ []) list)) where
-  passive_owner : wakes_owner found now.records ≡ true → is_active now.records found.owner ≡ false
+    (read : slice_get arcs i ≡ Some found) (below : found.owner < length now.records) (written : new.records ≡ notified_at found.owner now.records)
+    (listed : list' ≡ (cond (wakes_owner found.owner now.records) (list ++ record { number = found.owner } ∷ []) list)) where
+  passive_owner : wakes_owner found.owner now.records ≡ true → is_active now.records found.owner ≡ false
   passive_owner wakes =
-      let parts = and_parts found.waits (marks_active (noted_mark 1 (record_of now.records found.owner).mark) && not (marks_active (record_of now.records found.owner).mark)) wakes in
-      let passive = (and_parts (marks_active (noted_mark 1 (record_of now.records found.owner).mark)) (not (marks_active (record_of now.records found.owner).mark)) parts.1).1 in
-      not_true (marks_active (record_of now.records found.owner).mark) passive
+      not_true (marks_active (record_of now.records found.owner).mark) (and_parts (marks_active (noted_mark 1 (record_of now.records found.owner).mark)) (not (marks_active (record_of now.records found.owner).mark)) wakes).1
 
-  absent_owner : wakes_owner found now.records ≡ true → has (numbers list) found.owner ≡ false
+  absent_owner : wakes_owner found.owner now.records ≡ true → has (numbers list) found.owner ≡ false
   absent_owner wakes = is.members found.owner ∙ ap (λ b. b && not (is_active old.records found.owner)) (passive_owner wakes)
 
   -- the owner was passive at first, too
-  passive_at_first : wakes_owner found now.records ≡ true → is_active old.records found.owner ≡ false
+  passive_at_first : wakes_owner found.owner now.records ≡ true → is_active old.records found.owner ≡ false
   passive_at_first wakes = elim (cases_Bool (is_active old.records found.owner)) [
     | inl active ↦ absurd (both_ways (is_active now.records found.owner) (passive_owner wakes) (is.stays found.owner active))
     | inr passive ↦ passive
   ]
 
   more_apart : AreApart (numbers list')
-  more_apart = elim (cases_Bool (wakes_owner found now.records)) [
+  more_apart = elim (cases_Bool (wakes_owner found.owner now.records)) [
     | inl wakes ↦
         let longer : numbers list' ≡ numbers list ++ found.owner ∷ [] = ap numbers (listed ∙ ap (λ b. cond b (list ++ record { number = found.owner } ∷ []) list) wakes) ∙ map-append (λ n. n.number) list (record { number = found.owner } ∷ []) in
         subst AreApart (sym longer) (AreApart-push (numbers list) found.owner is.apart (Lacks-from_has (numbers list) found.owner (absent_owner wakes)))
@@ -213,11 +190,11 @@ module _ (arcs : List ArcRecord) (walk rest behind : List ℕ) (i : ℕ) (found 
   ]
 
   more_members : (m : ℕ) → has (numbers list') m ≡ (is_active new.records m && not (is_active old.records m))
-  more_members m = elim (cases_Bool (wakes_owner found now.records)) [
+  more_members m = elim (cases_Bool (wakes_owner found.owner now.records)) [
     | inl wakes ↦
         let longer : numbers list' ≡ numbers list ++ found.owner ∷ [] = ap numbers (listed ∙ ap (λ b. cond b (list ++ record { number = found.owner } ∷ []) list) wakes) ∙ map-append (λ n. n.number) list (record { number = found.owner } ∷ []) in
         let here = ap (λ xs. has xs m) longer ∙ has_push (numbers list) found.owner m in
-        let active = ap (λ rs. is_active rs m) written ∙ woken_along found now.records below wakes m in
+        let active = ap (λ rs. is_active rs m) written ∙ woken_there found.owner now.records below wakes m in
         elim (cases_Bool (eqb m found.owner)) [
           | inl same ↦
               let e : m ≡ found.owner = eqb-true m found.owner same in
@@ -228,25 +205,20 @@ module _ (arcs : List ArcRecord) (walk rest behind : List ℕ) (i : ℕ) (found 
         ]
     | inr sleeps ↦
         ap (λ l. has (numbers l) m) (listed ∙ ap (λ b. cond b (list ++ record { number = found.owner } ∷ []) list) sleeps) ∙ is.members m
-        ∙ ap (λ b. b && not (is_active old.records m)) (sym (ap (λ rs. is_active rs m) written ∙ passive_along found now.records below sleeps m))
+        ∙ ap (λ b. b && not (is_active old.records m)) (sym (ap (λ rs. is_active rs m) written ∙ passive_there found.owner now.records below sleeps m))
   ]
 
   pub notifying_more : new.room ≡ now.room → IsNotifying arcs walk old behind new list'
   notifying_more room =
       let record_is : record_at arcs i ≡ found = get_or_from_slice_get arcs i found (arc_record 0 0 false) read in
       record {
-        long = ap length written ∙ length_along found now.records below ∙ is.long;
+        long = ap length written ∙ length-set now.records found.owner (notified 1 (record_of now.records found.owner)) ∙ is.long;
         each = λ m. ap (λ rs. notified (along arcs behind m) (record_of rs m)) written ∙ each_step arcs i m behind found now.records record_is below ∙ ap (λ w. notified (along arcs w m) (record_of now.records m)) (sym at) ∙ is.each m;
-        stays = λ m active. ap (λ rs. is_active rs m) written ∙ active_along found now.records below m (is.stays m active);
+        stays = λ m active. ap (λ rs. is_active rs m) written ∙ active_stays found.owner now.records below m (is.stays m active);
         apart = more_apart;
         members = more_members;
         room = room ∙ is.room;
       }
-
-once : (a b c : Bool) → ((a && b) && (b && c)) ≡ (a && (b && c))
-once true true c = refl
-once true false c = refl
-once false b c = refl
 
 pub notifying_ends : (arcs : List ArcRecord) (target : ℕ) (walk rest : List ℕ) (old now : Table) (list : List NodeId) → IsWalk arcs target walk → IsNotifying arcs walk old rest now list → rest ≡ [] → AreNotified arcs target old.records now.records
 notifying_ends arcs target walk rest old now list walks is none = record {
@@ -255,14 +227,13 @@ notifying_ends arcs target walk rest old now list walks is none = record {
       sym (ap (λ w. notified (along arcs w m) (record_of now.records m)) none ∙ ap (λ mark. record (record_of now.records m) { mark = mark }) (noted_none (record_of now.records m).mark))
       ∙ is.each m
       ∙ ap (λ c. notified c (record_of old.records m))
-      (count_walk arcs target walk walks (λ a. a.waits && eqb a.owner m)
-      ∙ count_same (λ a. (eqb a.target target && a.waits) && (a.waits && eqb a.owner m)) (λ a. eqb a.target target && (a.waits && eqb a.owner m)) (λ a. once (eqb a.target target) a.waits (eqb a.owner m)) arcs);
+      (count_walk arcs target walk walks (λ a. eqb a.owner m)
+      ∙ count_same (λ a. (eqb a.target target && a.waits) && eqb a.owner m) (λ a. eqb a.target target && (a.waits && eqb a.owner m)) (λ a. and_assoc (eqb a.target target) a.waits (eqb a.owner m)) arcs);
 }
 
 pub woken_ends : (arcs : List ArcRecord) (walk rest : List ℕ) (old now : Table) (list : List NodeId) → IsNotifying arcs walk old rest now list → IsWokenList old.records now.records list
 woken_ends arcs walk rest old now list is = record { distinct = IsDistinct-from_apart (numbers list) is.apart; members = is.members }
 
-pub wakes_passive : (arc : ArcRecord) (records : List NodeRecord) → IsTrue (wakes_owner arc records) → is_active records arc.owner ≡ false
-wakes_passive arc records wakes =
-    let parts = and_parts arc.waits (marks_active (noted_mark 1 (record_of records arc.owner).mark) && not (marks_active (record_of records arc.owner).mark)) wakes in
-    not_true (marks_active (record_of records arc.owner).mark) (and_parts (marks_active (noted_mark 1 (record_of records arc.owner).mark)) (not (marks_active (record_of records arc.owner).mark)) parts.1).1
+pub wakes_passive : (owner : ℕ) (records : List NodeRecord) → IsTrue (wakes_owner owner records) → is_active records owner ≡ false
+wakes_passive owner records wakes =
+    not_true (marks_active (record_of records owner).mark) (and_parts (marks_active (noted_mark 1 (record_of records owner).mark)) (not (marks_active (record_of records owner).mark)) wakes).1

@@ -18,19 +18,19 @@ HasOwners records arcs = All (λ a. a.owner < length records) arcs
 abbrev pub notified : ℕ → NodeRecord → NodeRecord
 notified count r = record r { mark = noted_mark count r.mark }
 
--- the records after the owner of the arc is notified, if it waits along it
-abbrev pub notified_along : ArcRecord → List NodeRecord → List NodeRecord
-notified_along arc records = if arc.waits then slice_set records arc.owner (notified 1 (record_of records arc.owner)) else records
+-- the records after the owner of an arc is notified
+abbrev pub notified_at : ℕ → List NodeRecord → List NodeRecord
+notified_at owner records = slice_set records owner (notified 1 (record_of records owner))
 
--- whether the notification along the arc makes its owner active
-abbrev pub wakes_owner : ArcRecord → List NodeRecord → Bool
-wakes_owner arc records = arc.waits && (marks_active (noted_mark 1 (record_of records arc.owner).mark) && not (marks_active (record_of records arc.owner).mark))
+-- whether the notification makes the owner active
+abbrev pub wakes_owner : ℕ → List NodeRecord → Bool
+wakes_owner owner records = marks_active (noted_mark 1 (record_of records owner).mark) && not (marks_active (record_of records owner).mark)
 
--- the owner of the arc is notified, and it is in the list where that makes it active
-pub record Follows (arc : ArcRecord) (old : Table) (before : NodeList) (new : Table) (after : NodeList) : Type 0 where
-  pub records : new.records ≡ notified_along arc old.records
+-- the owner is notified, and it is in the list where that makes it active
+pub record HasNotified (owner : ℕ) (old : Table) (before : NodeList) (new : Table) (after : NodeList) : Type 0 where
+  pub records : new.records ≡ notified_at owner old.records
   pub room : new.room ≡ old.room
-  pub list : after.list ≡ (if wakes_owner arc old.records then before.list ++ record { number = arc.owner } ∷ [] else before.list)
+  pub list : after.list ≡ (if wakes_owner owner old.records then before.list ++ record { number = owner } ∷ [] else before.list)
   pub list_room : after.room ≡ before.room
 
 -- along how many of its arcs the node of this number waits for the target

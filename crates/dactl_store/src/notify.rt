@@ -7,11 +7,11 @@ ghost use Rattle.dactl_model.specs.Graphs.{HasNode};
 ghost use Rattle.dactl_model.specs.Acts.{marks_active, acts_of_step};
 ghost use Rattle.dactl_model.specs.Noting.{noted_mark, noted};
 ghost use Rattle.dactl_store.specs.Table.{record_of};
-ghost use Rattle.dactl_store.specs.Notifying.{HasOwners, Follows, AreNotified, IsWokenList, wakes_owner};
+ghost use Rattle.dactl_store.specs.Notifying.{HasOwners, HasNotified, AreNotified, IsWokenList, wakes_owner};
 
 use crate::store::Store;
 use crate::table::{NodeRecord, NodeTable};
-use dactl_arcs::{ArcPool, ArcRecord};
+use dactl_arcs::ArcPool;
 use dactl_model::footprint::Woken;
 use dactl_model::graph::{Mark, NodeId};
 
@@ -33,20 +33,17 @@ fn is_woken(before: Mark, after: Mark) -> bool
     matches!(after, Mark::Active) && !matches!(before, Mark::Active)
 }
 
-// Notifies the owner of an arc, if it waits along it, and adds it to the list where it becomes active.
-fn follow(nodes: &mut NodeTable, arc: ArcRecord, woken: &mut Woken)
-    requires owner { arc.owner < length nodes.old.records }
-    requires room { IsTrue (wakes_owner arc nodes.old.records) → length woken.old.list < woken.old.room }
-    ensures { Follows arc nodes.old woken.old nodes.new woken.new }
+// Notifies the owner of an arc along which it waits, and adds it to the list where it becomes active.
+fn notify_owner(nodes: &mut NodeTable, owner: u32, woken: &mut Woken)
+    requires owner { owner < length nodes.old.records }
+    requires room { IsTrue (wakes_owner owner nodes.old.records) → length woken.old.list < woken.old.room }
+    ensures { HasNotified owner nodes.old woken.old nodes.new woken.new }
 {
-    if !arc.waits {
-        return;
-    }
-    let node = nodes.get(arc.owner);
+    let node = nodes.get(owner);
     let mark = mark_after(node.mark);
-    nodes.set(arc.owner, NodeRecord { mark, ..node });
+    nodes.set(owner, NodeRecord { mark, ..node });
     if is_woken(node.mark, mark) {
-        woken.push(NodeId { number: arc.owner });
+        woken.push(NodeId { number: owner });
     }
 }
 
@@ -64,7 +61,7 @@ fn notify_owners(nodes: &mut NodeTable, arcs: &ArcPool, target: u32, woken: &mut
 {
     let mut at = arcs.first_into(target);
     while let Some(arc) = at {
-        follow(nodes, arcs.arc(arc), woken);
+        notify_owner(nodes, arcs.arc(arc).owner, woken);
         at = arcs.next_into(arc);
     }
 }

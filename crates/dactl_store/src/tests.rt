@@ -77,6 +77,7 @@ fn program(alloc: Global) -> Result<Program, Memory> {
         symbols: symbols(alloc)?,
         rules: rules(alloc)?,
         start: start(alloc)?,
+        wide: true,
     })
 }
 
@@ -281,6 +282,25 @@ fn nodes_are_added_up_to_the_room(rt: HostRuntime) -> Result<(), Fail> {
     assert!(&rt; is_node(&store, 4, 8, Mark::Active, symbol(5), &[(5, true)]));
     assert!(&rt; is_node(&store, 5, 9, Mark::Active, symbol(5), &[(0, true)]));
     assert!(&rt; are_active(&mut store, &[1, 2, 4, 5, 1]));
+    Ok(())
+}
+
+/// Whether a new node with this label, if there is room for it, is read with it.
+fn keeps(store: &mut Store, label: Label) -> bool {
+    if store.left().nodes == 0 {
+        return false;
+    }
+    let node = store.append(label, Mark::Idle, 7);
+    is_node(store, node.number, 7, Mark::Idle, label, &[]) && store.reading(node).label == label
+}
+
+/// A character is another label than the integer of its byte.
+#[test]
+fn a_label_is_kept_whole(rt: HostRuntime) -> Result<(), Fail> {
+    let mut store = begun(&rt, rt.alloc(), room(6, 8))?;
+    assert!(&rt; keeps(&mut store, Label::Character(b'a')));
+    assert!(&rt; keeps(&mut store, Label::Integer(i128::MIN)));
+    assert!(&rt; !is_node(&store, 4, 7, Mark::Idle, Label::Integer(97), &[]));
     Ok(())
 }
 

@@ -5,9 +5,9 @@ use Rattle.std.specs.List.{list_any}
 use Rattle.std.proofs.lemmas.List.{append-nil}
 use Rattle.std.proofs.lemmas.Slice.Eq.{bytes_eq-Decides}
 use Rattle.dactl_base.specs.declared.refusal.Kind.TheVariants as kinds
-use Rattle.dactl_syntax.specs.declared.tree.Text.{Text}
-use Rattle.dactl_syntax.specs.Declarations.{Declaration, is_called, all_names}
-use Rattle.dactl_syntax.specs.ScopeFaults.{TwiceDeclared}
+use Rattle.dactl_meaning.specs.declared.tree.Text.{Text}
+use Rattle.dactl_meaning.specs.Declarations.{Declaration, is_called, all_names}
+use Rattle.dactl_meaning.specs.ScopeFaults.{TwiceDeclared}
 use Rattle.dactl_symbols.specs.Least.{sooner, TellsLeast}
 use Rattle.dactl_symbols.specs.Meanings.{twice_at, again_at, again_after}
 use Rattle.dactl_symbols.proofs.Sooner.{sooner-None, sooner-assoc, tells-same, tells-sooner}

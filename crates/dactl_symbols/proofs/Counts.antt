@@ -8,12 +8,12 @@ use Rattle.dactl_base.specs.declared.refusal.Kind.TheVariants as kinds
 use Rattle.dactl_base.specs.declared.refusal.Place.{Place}
 use Rattle.dactl_base.specs.declared.refusal.Refusal.{Refusal}
 use Rattle.dactl_model.specs.declared.program.Class.{Class}
-use Rattle.dactl_syntax.specs.declared.tree.Item.{Item}
-use Rattle.dactl_syntax.specs.declared.tree.Item.TheVariants as item
-use Rattle.dactl_syntax.specs.declared.tree.Text.{Text}
-use Rattle.dactl_syntax.specs.Declarations.{Placed, items, rules, own_names, all_names}
-use Rattle.dactl_syntax.specs.Sight.{Import, imports, imported}
-use Rattle.dactl_syntax.specs.ScopeFaults.{UnknownModule, PublicTooStrong, HasTooStrong, is_too_strong, NoInitial, TwoInitials, initials, most_names, most_rules}
+use Rattle.dactl_meaning.specs.declared.tree.Item.{Item}
+use Rattle.dactl_meaning.specs.declared.tree.Item.TheVariants as item
+use Rattle.dactl_meaning.specs.declared.tree.Text.{Text}
+use Rattle.dactl_meaning.specs.Declarations.{Placed, items, rules, own_names, all_names}
+use Rattle.dactl_meaning.specs.Sight.{Import, imports, imported}
+use Rattle.dactl_meaning.specs.ScopeFaults.{UnknownModule, PublicTooStrong, HasTooStrong, is_too_strong, NoInitial, TwoInitials, initials, most_names, most_rules}
 use Rattle.dactl_symbols.specs.Least.{least_by, TellsLeast}
 use Rattle.dactl_symbols.specs.Finds.{byte_of, item_strong, strong_bytes}
 use Rattle.dactl_symbols.specs.Counting.{fault_at, import_fault, initial_fault, name_beyond, rule_beyond}

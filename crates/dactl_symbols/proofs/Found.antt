@@ -4,14 +4,14 @@ use Rattle.std.specs.List.{flat_map, enumerate_from}
 use Rattle.std.proofs.lemmas.List.{map-append}
 use Rattle.std.proofs.lemmas.List.Concat.{flat_map-append}
 use Rattle.std.proofs.lemmas.List.Folds.{flat_map-map}
-use Rattle.dactl_syntax.specs.declared.tree.Group.{Group}
-use Rattle.dactl_syntax.specs.declared.tree.Item.{Item}
-use Rattle.dactl_syntax.specs.declared.tree.Item.TheVariants as item
-use Rattle.dactl_syntax.specs.declared.tree.Module.{Module}
-use Rattle.dactl_syntax.specs.declared.tree.Text.{Text}
-use Rattle.dactl_syntax.specs.Declarations.{Placed, PlacedRule, items_of, items, item_groups, groups, rules, item_names, module_names, all_names, built_in_names}
-use Rattle.dactl_syntax.specs.Sight.{item_imports, imports}
-use Rattle.dactl_syntax.specs.ScopeFaults.{item_initials, initials}
+use Rattle.dactl_meaning.specs.declared.tree.Group.{Group}
+use Rattle.dactl_meaning.specs.declared.tree.Item.{Item}
+use Rattle.dactl_meaning.specs.declared.tree.Item.TheVariants as item
+use Rattle.dactl_meaning.specs.declared.tree.Module.{Module}
+use Rattle.dactl_meaning.specs.declared.tree.Text.{Text}
+use Rattle.dactl_meaning.specs.Declarations.{Placed, PlacedRule, items_of, items, item_groups, groups, rules, item_names, module_names, all_names, built_in_names}
+use Rattle.dactl_meaning.specs.Sight.{item_imports, imports}
+use Rattle.dactl_meaning.specs.ScopeFaults.{item_initials, initials}
 use Rattle.dactl_symbols.specs.Finds.{Finds, joined_all, item_finds, name_finds, module_finds, text_finds, item_rules, item_strong}
 
 -- ---- a part of finds is joined as a list

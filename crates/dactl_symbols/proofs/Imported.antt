@@ -2,9 +2,9 @@
 use Rattle.std.proofs.Common.{◌≡◌, Bool, List, Option, Some, None, refl}
 use Rattle.std.specs.Prelude.{option_and_then, option_map}
 use Rattle.std.specs.List.{list_any}
-use Rattle.dactl_syntax.specs.declared.tree.Text.{Text}
-use Rattle.dactl_syntax.specs.Declarations.{all_names, meaning}
-use Rattle.dactl_syntax.specs.Sight.{Import, home_given, imported}
+use Rattle.dactl_meaning.specs.declared.tree.Text.{Text}
+use Rattle.dactl_meaning.specs.Declarations.{all_names, meaning}
+use Rattle.dactl_meaning.specs.Sight.{Import, home_given, imported}
 use Rattle.dactl_symbols.specs.Meanings.{First}
 use Rattle.dactl_symbols.specs.Sights.{imported_in}
 

@@ -3,19 +3,19 @@ use Rattle.std.proofs.Common.{◌≡◌, Bool, true, false, not, List, [], ◌�
 use Rattle.std.specs.Prelude.{◌↔◌, IsTrue}
 use Rattle.std.specs.List.{flat_map}
 use Rattle.std.proofs.lemmas.List.Folds.{flat_map-map}
-use Rattle.dactl_syntax.specs.declared.tree.Name.{Name}
-use Rattle.dactl_syntax.specs.declared.tree.Sign.{Sign}
-use Rattle.dactl_syntax.specs.declared.tree.PatternTree.{PatternTree}
-use Rattle.dactl_syntax.specs.declared.tree.PatternTree.TheVariants.{rolls-Binder, rolls-Chain, rolls-Sym}
-use Rattle.dactl_syntax.specs.declared.tree.PatternTree.TheVariants as p
-use Rattle.dactl_syntax.specs.declared.tree.PatternTree.TheOpen.{PatternTree-F}
-use Rattle.dactl_syntax.specs.declared.tree.PatternTree.TheFolds.{fold-roll-PatternTree}
-use Rattle.dactl_syntax.specs.declared.tree.ArgTree.{ArgTree}
-use Rattle.dactl_syntax.specs.declared.tree.NodeTree.TheVariants.{rolls-Sym as rolls-node}
-use Rattle.dactl_syntax.specs.declared.tree.NodeTree.TheVariants as n
-use Rattle.dactl_syntax.specs.declared.tree.NodeTree.TheOpen.{NodeTree-F}
-use Rattle.dactl_syntax.specs.declared.tree.NodeTree.TheFolds.{fold-roll-NodeTree}
-use Rattle.dactl_syntax.specs.Uses.{node_uses_level, arg_uses_level, term_uses_level, Use, is_any, pattern_uses_level, pattern_uses}
+use Rattle.dactl_meaning.specs.declared.tree.Name.{Name}
+use Rattle.dactl_meaning.specs.declared.tree.Sign.{Sign}
+use Rattle.dactl_meaning.specs.declared.tree.PatternTree.{PatternTree}
+use Rattle.dactl_meaning.specs.declared.tree.PatternTree.TheVariants.{rolls-Binder, rolls-Chain, rolls-Sym}
+use Rattle.dactl_meaning.specs.declared.tree.PatternTree.TheVariants as p
+use Rattle.dactl_meaning.specs.declared.tree.PatternTree.TheOpen.{PatternTree-F}
+use Rattle.dactl_meaning.specs.declared.tree.PatternTree.TheFolds.{fold-roll-PatternTree}
+use Rattle.dactl_meaning.specs.declared.tree.ArgTree.{ArgTree}
+use Rattle.dactl_meaning.specs.declared.tree.NodeTree.TheVariants.{rolls-Sym as rolls-node}
+use Rattle.dactl_meaning.specs.declared.tree.NodeTree.TheVariants as n
+use Rattle.dactl_meaning.specs.declared.tree.NodeTree.TheOpen.{NodeTree-F}
+use Rattle.dactl_meaning.specs.declared.tree.NodeTree.TheFolds.{fold-roll-NodeTree}
+use Rattle.dactl_meaning.specs.Uses.{node_uses_level, arg_uses_level, term_uses_level, Use, is_any, pattern_uses_level, pattern_uses}
 use Rattle.dactl_symbols.specs.UseFaults.{use_at, node_uses, arg_uses}
 
 is_any-map : {X Y : Type 0} (f : X → Y) (xs : List X) → is_any (map f xs) ≡ is_any xs

@@ -3,9 +3,9 @@ use Rattle.std.proofs.Common.{◌≡◌, ℕ, Bool, List, map, Option, Some, Non
 use Rattle.std.specs.Prelude.{option_map, option_and_then, slice_get}
 use Rattle.std.specs.List.{filter_map}
 use Rattle.std.proofs.lemmas.Option.{slice_get-map}
-use Rattle.dactl_syntax.specs.Declarations.{Written, same_home}
-use Rattle.dactl_syntax.specs.Sight as sight
-use Rattle.dactl_syntax.specs.Sight.{entity_seen, class_seen}
+use Rattle.dactl_meaning.specs.Declarations.{Written, same_home}
+use Rattle.dactl_meaning.specs.Sight as sight
+use Rattle.dactl_meaning.specs.Sight.{entity_seen, class_seen}
 use Rattle.dactl_symbols.specs.declared.names.Meaning.{Meaning}
 use Rattle.dactl_symbols.specs.declared.sight.Owned.{Owned}
 use Rattle.dactl_symbols.specs.Declaring.{home_of, entity_of}

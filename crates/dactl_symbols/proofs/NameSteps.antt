@@ -11,7 +11,7 @@ use Rattle.std.proofs.lemmas.Option.{slice_get_within, slice_get_cases}
 use Rattle.std.proofs.lemmas.Slice.Eq.{bytes_eq-Decides}
 use Rattle.std.proofs.lemmas.Bool.Decides.{same_from_decides, nat_tests}
 use Rattle.dactl_base.specs.declared.refusal.Refusal.{Refusal}
-use Rattle.dactl_syntax.specs.Declarations.{Declaration, is_called, is_symbol}
+use Rattle.dactl_meaning.specs.Declarations.{Declaration, is_called, is_symbol}
 use Rattle.dactl_symbols.specs.Least.{sooner}
 use Rattle.dactl_symbols.specs.Meanings.{First, meaning_in, symbol_count, twice_at, again_after, count_with, first_with, repeats, Adds, AreNames}
 use Rattle.dactl_symbols.proofs.Again.{again_after-push}

@@ -5,10 +5,10 @@ use Rattle.std.specs.List.{before_first, position_or_len, filter_map, cons_optio
 use Rattle.std.proofs.lemmas.List.{length-take}
 use Rattle.std.proofs.lemmas.List.Sums.{count_by-le-length}
 use Rattle.dactl_model.specs.declared.program.Class.{Class}
-use Rattle.dactl_syntax.specs.declared.tree.Text.{Text}
-use Rattle.dactl_syntax.specs.Declarations.{Home, Written, same_home, Entity, AsModule, AsSymbol, AsPattern, Declaration, is_called, is_symbol, all_names, meaning, number_of, symbol_names, symbols, entity_symbol}
-use Rattle.dactl_syntax.specs.Sight as sight
-use Rattle.dactl_syntax.specs.Sight.{Import, imports, imported, is_given, imports_from, entity_seen, entity_class, class_seen, sees, class_for}
+use Rattle.dactl_meaning.specs.declared.tree.Text.{Text}
+use Rattle.dactl_meaning.specs.Declarations.{Home, Written, same_home, Entity, AsModule, AsSymbol, AsPattern, Declaration, is_called, is_symbol, all_names, meaning, number_of, symbol_names, symbols, entity_symbol}
+use Rattle.dactl_meaning.specs.Sight as sight
+use Rattle.dactl_meaning.specs.Sight.{Import, imports, imported, is_given, imports_from, entity_seen, entity_class, class_seen, sees, class_for}
 use Rattle.dactl_symbols.specs.Meanings.{First, meaning_in, symbol_count}
 use Rattle.dactl_symbols.specs.Sights.{Sights, Standing, entity_standing, owned_in, imported_in, has_link, AreLinks}
 use Rattle.dactl_symbols.specs.Scoping.{seen_in, class_in, symbols_in, IsScopesOf}

@@ -6,7 +6,7 @@ use Rattle.std.proofs.lemmas.List.Elements.{Contains-append_cases, Contains-appe
 use Rattle.dactl_base.specs.declared.refusal.Kind.{Kind}
 use Rattle.dactl_base.specs.declared.refusal.Refusal.{Refusal}
 use Rattle.dactl_base.specs.declared.refusal.Place.{Place}
-use Rattle.dactl_syntax.specs.Faults.{phase, rank, Precedes}
+use Rattle.dactl_meaning.specs.Faults.{phase, rank, Precedes}
 use Rattle.dactl_symbols.specs.Least.{least_by, TellsLeast}
 use Rattle.dactl_symbols.specs.Finds.{byte_of}
 use Rattle.dactl_symbols.specs.Counting.{fault_at}

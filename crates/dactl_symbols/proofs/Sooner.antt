@@ -4,7 +4,7 @@ use Rattle.std.specs.Prelude.{Any}
 use Rattle.std.specs.List.{flat_map}
 use Rattle.std.proofs.lemmas.List.{take_more}
 use Rattle.dactl_base.specs.declared.refusal.Refusal.{Refusal}
-use Rattle.dactl_syntax.specs.Faults.{Precedes}
+use Rattle.dactl_meaning.specs.Faults.{Precedes}
 use Rattle.dactl_symbols.specs.Least.{precedes, sooner, least_by, TellsLeast}
 use Rattle.dactl_symbols.proofs.Turns.{precedes-trans, precedes-negated, Precedes-test, test-Precedes}
 

@@ -2,7 +2,7 @@
 use Rattle.std.proofs.Common.{◌≡◌, ℕ, ◌<◌, Bool, true, false, ◌⊎◌, inl, inr, arith, ltb}
 use Rattle.std.proofs.lemmas.Bool.Decides.{nat_tests}
 use Rattle.dactl_base.specs.declared.refusal.Refusal.{Refusal}
-use Rattle.dactl_syntax.specs.Faults.{phase, rank, Precedes, StandsBefore}
+use Rattle.dactl_meaning.specs.Faults.{phase, rank, Precedes, StandsBefore}
 use Rattle.dactl_symbols.specs.Least.{in_turn, precedes}
 
 -- ---- one number before the rest

@@ -4,14 +4,14 @@ use Rattle.std.specs.Prelude.{Any, IsNone, is_some, option_map}
 use Rattle.std.specs.List.{flat_map, enumerate_from}
 use Rattle.dactl_base.specs.declared.refusal.Kind.TheVariants as kinds
 use Rattle.dactl_base.specs.declared.refusal.Refusal.{Refusal}
-use Rattle.dactl_syntax.specs.declared.tree.Item.{Item}
-use Rattle.dactl_syntax.specs.declared.tree.Module.{Module}
-use Rattle.dactl_syntax.specs.declared.tree.Text.{Text}
-use Rattle.dactl_syntax.specs.Faults.{phase, rank, Precedes}
-use Rattle.dactl_syntax.specs.Declarations.{Placed, Declaration, Entity, AsModule, AsSymbol, AsPattern, items, items_of, all_names, meaning}
-use Rattle.dactl_syntax.specs.Sight.{sees}
-use Rattle.dactl_syntax.specs.Uses.{Use, item_uses, uses}
-use Rattle.dactl_syntax.specs.ScopeFaults.{IsUnknown, UnknownName, NotVisible, is_usable, is_pattern}
+use Rattle.dactl_meaning.specs.declared.tree.Item.{Item}
+use Rattle.dactl_meaning.specs.declared.tree.Module.{Module}
+use Rattle.dactl_meaning.specs.declared.tree.Text.{Text}
+use Rattle.dactl_meaning.specs.Faults.{phase, rank, Precedes}
+use Rattle.dactl_meaning.specs.Declarations.{Placed, Declaration, Entity, AsModule, AsSymbol, AsPattern, items, items_of, all_names, meaning}
+use Rattle.dactl_meaning.specs.Sight.{sees}
+use Rattle.dactl_meaning.specs.Uses.{Use, item_uses, uses}
+use Rattle.dactl_meaning.specs.ScopeFaults.{IsUnknown, UnknownName, NotVisible, is_usable, is_pattern}
 use Rattle.dactl_symbols.specs.Least.{least_by, TellsLeast}
 use Rattle.dactl_symbols.specs.Sights.{Sights}
 use Rattle.dactl_symbols.specs.Scoping.{seen_in}

@@ -5,12 +5,12 @@ use Rattle.dactl_base.specs.declared.refusal.Kind.{Kind}
 use Rattle.dactl_base.specs.declared.refusal.Kind.TheVariants as kinds
 use Rattle.dactl_base.specs.declared.refusal.Place.{Place}
 use Rattle.dactl_base.specs.declared.refusal.Refusal.{Refusal}
-use Rattle.dactl_syntax.specs.declared.tree.Text.{Text}
-use Rattle.dactl_syntax.specs.Faults.{NoFault}
-use Rattle.dactl_syntax.specs.Declarations.{Declaration, all_names, own_names}
-use Rattle.dactl_syntax.specs.Sight.{Import, imports}
-use Rattle.dactl_syntax.specs.Uses.{Use, uses}
-use Rattle.dactl_syntax.specs.ScopeFaults.{HasScopeFault, ScopeFault, TwiceDeclared, UnknownModule, UnknownName, NotVisible, PublicTooStrong, NoInitial, TwoInitials, most_names}
+use Rattle.dactl_meaning.specs.declared.tree.Text.{Text}
+use Rattle.dactl_meaning.specs.Faults.{NoFault}
+use Rattle.dactl_meaning.specs.Declarations.{Declaration, all_names, own_names}
+use Rattle.dactl_meaning.specs.Sight.{Import, imports}
+use Rattle.dactl_meaning.specs.Uses.{Use, uses}
+use Rattle.dactl_meaning.specs.ScopeFaults.{HasScopeFault, ScopeFault, TwiceDeclared, UnknownModule, UnknownName, NotVisible, PublicTooStrong, NoInitial, TwoInitials, most_names}
 use Rattle.dactl_symbols.specs.Least.{sooner, least_by, TellsLeast}
 use Rattle.dactl_symbols.specs.declared.survey.Survey.{Survey}
 use Rattle.dactl_symbols.specs.declared.survey.Import as code

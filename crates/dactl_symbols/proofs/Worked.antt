@@ -3,19 +3,19 @@ use Rattle.std.proofs.Common.{◌≡◌, ℕ, true, false, List, [], ◌∷◌, 
 use Rattle.std.specs.Prelude.{Any, IsNone}
 use Rattle.dactl_model.specs.declared.program.Class.TheVariants as classes
 use Rattle.dactl_base.specs.declared.refusal.Place.{Place}
-use Rattle.dactl_syntax.specs.declared.tree.Name.{Name}
-use Rattle.dactl_syntax.specs.declared.tree.Marks.TheVariants as marks
-use Rattle.dactl_syntax.specs.declared.tree.NodeTree.TheOpen.{NodeTree-F}
-use Rattle.dactl_syntax.specs.declared.tree.NodeTree.TheViews.{roll-NodeTree, roll-TermTree}
-use Rattle.dactl_syntax.specs.declared.tree.NodeTree.TheFolds.{fold-roll-NodeTree, fold-roll-TermTree}
-use Rattle.dactl_syntax.specs.declared.tree.TermTree.{TermTree}
-use Rattle.dactl_syntax.specs.declared.tree.Item.{Item}
-use Rattle.dactl_syntax.specs.declared.tree.Item.TheVariants as item
-use Rattle.dactl_syntax.specs.declared.tree.Text.{Text}
-use Rattle.dactl_syntax.specs.Declarations.{meaning, all_names, symbols, Written, AsSymbol}
-use Rattle.dactl_syntax.specs.Sight.{sees, SeenSymbol, class_for}
-use Rattle.dactl_syntax.specs.Uses.{uses, Use, term_uses, body_uses, node_uses_level, arg_uses_level, term_uses_level}
-use Rattle.dactl_syntax.specs.ScopeFaults.{TwiceDeclared, UnknownModule, UnknownName, NotVisible, PublicTooStrong, NoInitial, is_usable, IsUnknown}
+use Rattle.dactl_meaning.specs.declared.tree.Name.{Name}
+use Rattle.dactl_meaning.specs.declared.tree.Marks.TheVariants as marks
+use Rattle.dactl_meaning.specs.declared.tree.NodeTree.TheOpen.{NodeTree-F}
+use Rattle.dactl_meaning.specs.declared.tree.NodeTree.TheViews.{roll-NodeTree, roll-TermTree}
+use Rattle.dactl_meaning.specs.declared.tree.NodeTree.TheFolds.{fold-roll-NodeTree, fold-roll-TermTree}
+use Rattle.dactl_meaning.specs.declared.tree.TermTree.{TermTree}
+use Rattle.dactl_meaning.specs.declared.tree.Item.{Item}
+use Rattle.dactl_meaning.specs.declared.tree.Item.TheVariants as item
+use Rattle.dactl_meaning.specs.declared.tree.Text.{Text}
+use Rattle.dactl_meaning.specs.Declarations.{meaning, all_names, symbols, Written, AsSymbol}
+use Rattle.dactl_meaning.specs.Sight.{sees, SeenSymbol, class_for}
+use Rattle.dactl_meaning.specs.Uses.{uses, Use, term_uses, body_uses, node_uses_level, arg_uses_level, term_uses_level}
+use Rattle.dactl_meaning.specs.ScopeFaults.{TwiceDeclared, UnknownModule, UnknownName, NotVisible, PublicTooStrong, NoInitial, is_usable, IsUnknown}
 
 abbrev at : ℕ → Place
 at p = record { byte = p }
@@ -28,7 +28,7 @@ abbrev bare : Name → TermTree
 bare n = roll-TermTree (record { marks = marks.Plain; name = None; node = Some (roll-NodeTree (NodeTree-F.Sym n [])) })
 
 abbrev one : List Item → ℕ → Text
-one items n = record { modules = record { name = name (codes "M") 7; items = items } ∷ []; length = n }
+one items n = record { language = 1; modules = record { name = name (codes "M") 7; items = items } ∷ []; length = n }
 
 -- MODULE M; SYMBOL CREATABLE A, A; INITIAL => A; ENDMODULE M;
 abbrev twice : Text
@@ -78,6 +78,7 @@ seen_name = refl
 -- MODULE A; SYMBOL OVERWRITABLE PUBLIC CREATABLE Cell; ENDMODULE A; MODULE B; IMPORTS A; SYMBOL REWRITABLE F;
 abbrev two : Text
 two = record {
+  language = 1;
   modules =
       record { name = name (codes "A") 7; items = item.Symbols classes.Overwritable (Some (classes.Creatable, at 38)) (name (codes "Cell") 48 ∷ []) ∷ [] }
       ∷ record { name = name (codes "B") 73; items = item.Imports (name (codes "A") 84 ∷ []) ∷ item.Symbols classes.Rewritable None (name (codes "F") 87 ∷ []) ∷ [] }

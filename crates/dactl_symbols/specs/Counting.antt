@@ -4,9 +4,9 @@ use Rattle.dactl_base.specs.declared.refusal.Kind.{Kind}
 use Rattle.dactl_base.specs.declared.refusal.Kind.TheVariants as kinds
 use Rattle.dactl_base.specs.declared.refusal.Place.{Place}
 use Rattle.dactl_base.specs.declared.refusal.Refusal.{Refusal}
-use Rattle.dactl_syntax.specs.Declarations.{Declaration}
-use Rattle.dactl_syntax.specs.Sight.{Import}
-use Rattle.dactl_syntax.specs.ScopeFaults.{most_names, most_rules}
+use Rattle.dactl_meaning.specs.Declarations.{Declaration}
+use Rattle.dactl_meaning.specs.Sight.{Import}
+use Rattle.dactl_meaning.specs.ScopeFaults.{most_names, most_rules}
 use Rattle.dactl_symbols.specs.Least.{sooner, least_by}
 use Rattle.dactl_symbols.specs.Meanings.{again_after}
 use Rattle.dactl_symbols.specs.Sights.{imported_in}

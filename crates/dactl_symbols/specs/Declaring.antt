@@ -1,6 +1,6 @@
 -- What the code's lists of declarations and imports mean.
-use Rattle.dactl_syntax.specs.Declarations as meant
-use Rattle.dactl_syntax.specs.Sight as sight
+use Rattle.dactl_meaning.specs.Declarations as meant
+use Rattle.dactl_meaning.specs.Sight as sight
 use Rattle.dactl_symbols.specs.declared.survey.Home.{Home}
 use Rattle.dactl_symbols.specs.declared.survey.Home.TheVariants as homes
 use Rattle.dactl_symbols.specs.declared.survey.Entity.{Entity}

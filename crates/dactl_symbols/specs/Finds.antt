@@ -3,14 +3,14 @@ use Rattle.std.specs.Prelude.{ℕ, List, [], ◌∷◌, ◌++◌, map, Option, S
 use Rattle.std.specs.List.{flat_map, enumerate_from}
 use Rattle.dactl_base.specs.declared.refusal.Place.{Place}
 use Rattle.dactl_model.specs.declared.program.Class.{Class}
-use Rattle.dactl_syntax.specs.declared.tree.Group.{Group}
-use Rattle.dactl_syntax.specs.declared.tree.Item.{Item}
-use Rattle.dactl_syntax.specs.declared.tree.Item.TheVariants as item
-use Rattle.dactl_syntax.specs.declared.tree.Module.{Module}
-use Rattle.dactl_syntax.specs.declared.tree.Text.{Text}
-use Rattle.dactl_syntax.specs.Declarations.{Written, AsModule, Declaration, item_names, built_in_names}
-use Rattle.dactl_syntax.specs.Sight.{Import, item_imports}
-use Rattle.dactl_syntax.specs.ScopeFaults.{is_too_strong, item_initials}
+use Rattle.dactl_meaning.specs.declared.tree.Group.{Group}
+use Rattle.dactl_meaning.specs.declared.tree.Item.{Item}
+use Rattle.dactl_meaning.specs.declared.tree.Item.TheVariants as item
+use Rattle.dactl_meaning.specs.declared.tree.Module.{Module}
+use Rattle.dactl_meaning.specs.declared.tree.Text.{Text}
+use Rattle.dactl_meaning.specs.Declarations.{Written, AsModule, Declaration, item_names, built_in_names}
+use Rattle.dactl_meaning.specs.Sight.{Import, item_imports}
+use Rattle.dactl_meaning.specs.ScopeFaults.{is_too_strong, item_initials}
 use Rattle.dactl_symbols.specs.Declaring.{declaration_of, import_of}
 use Rattle.dactl_symbols.specs.declared.survey.Survey.{Survey}
 

@@ -1,7 +1,7 @@
 -- Of several faults the one that is told.
 use Rattle.std.specs.Prelude.{ℕ, Bool, nat_lt, ◌==◌, ◌&&◌, ◌||◌, if◌then◌else◌, List, [], ◌∷◌, Option, Some, None}
 use Rattle.dactl_base.specs.declared.refusal.Refusal.{Refusal}
-use Rattle.dactl_syntax.specs.Faults.{phase, rank, NoFault, IsLeastFault}
+use Rattle.dactl_meaning.specs.Faults.{phase, rank, NoFault, IsLeastFault}
 
 -- by the first numbers, and where they are one by the rest
 abbrev pub in_turn : ℕ → ℕ → Bool → Bool

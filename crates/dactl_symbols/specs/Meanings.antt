@@ -4,11 +4,13 @@ use Rattle.std.specs.List.{before_first, list_any}
 use Rattle.std.specs.Option.{option_or}
 use Rattle.std.specs.Str.{bytes_eq}
 use Rattle.std.specs.Prelude.{Vec}
-use Rattle.indexmap.specs.IndexMap.{IndexMap, get_by}
+use Rattle.std.specs.BTreeMap.{BTreeMap, get_by}
+use Rattle.std.specs.Cmp.Lexicographic.{slice_cmp}
+use Rattle.std.specs.Ordering.{nat_cmp}
 use Rattle.dactl_base.specs.declared.refusal.Refusal.{Refusal}
 use Rattle.dactl_base.specs.declared.refusal.Kind.TheVariants as kinds
-use Rattle.dactl_syntax.specs.declared.tree.Name.{Name}
-use Rattle.dactl_syntax.specs.Declarations.{Home, Entity, Declaration, is_called, is_symbol}
+use Rattle.dactl_meaning.specs.declared.tree.Name.{Name}
+use Rattle.dactl_meaning.specs.Declarations.{Home, Entity, Declaration, is_called, is_symbol}
 use Rattle.dactl_symbols.specs.Least.{sooner}
 use Rattle.dactl_symbols.specs.Declaring.{home_of, entity_of}
 use Rattle.dactl_symbols.specs.declared.names.Meaning.{Meaning}
@@ -60,8 +62,8 @@ again_after earlier [] = None
 again_after earlier (d ∷ ds) = sooner (again_at earlier d) (again_after (earlier ++ d ∷ []) ds)
 
 -- what a map from names finds
-abbrev pub found_in : {A S : Type 0} → IndexMap (Vec ℕ A) Meaning S → List ℕ → Option First
-found_in m word = option_map meaning_of (get_by (λ k. bytes_eq word k.items) m)
+abbrev pub found_in : {A : Type 0} → BTreeMap (Vec ℕ A) Meaning → List ℕ → Option First
+found_in m word = option_map meaning_of (get_by (λ k. slice_cmp nat_cmp word k.items) m)
 
 -- the look-up and the fault are those of the declarations
 pub record AreNames (ds : List Declaration) (found : List ℕ → Option First) (again : Option Refusal) : Type 0 where

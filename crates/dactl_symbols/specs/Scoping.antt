@@ -3,10 +3,10 @@ use Rattle.std.specs.Prelude.{◌≡◌, ℕ, List, Option, option_and_then, sli
 use Rattle.std.specs.List.{filter_map}
 use Rattle.dactl_model.specs.declared.program.Class.{Class}
 use Rattle.dactl_model.specs.declared.program.Symbol.{Symbol}
-use Rattle.dactl_syntax.specs.declared.tree.Text.{Text}
-use Rattle.dactl_syntax.specs.Declarations.{Written, same_home, entity_symbol, symbols}
-use Rattle.dactl_syntax.specs.Sight as sight
-use Rattle.dactl_syntax.specs.Sight.{SeenSymbol, SeenPattern, entity_seen, class_seen, sees, class_for}
+use Rattle.dactl_meaning.specs.declared.tree.Text.{Text}
+use Rattle.dactl_meaning.specs.Declarations.{Written, same_home, entity_symbol, symbols}
+use Rattle.dactl_meaning.specs.Sight as sight
+use Rattle.dactl_meaning.specs.Sight.{SeenSymbol, SeenPattern, entity_seen, class_seen, sees, class_for}
 use Rattle.dactl_symbols.specs.declared.sight.Seen.{Seen}
 use Rattle.dactl_symbols.specs.declared.sight.Seen.TheVariants as seen
 use Rattle.dactl_symbols.specs.Meanings.{meaning_in}

@@ -2,8 +2,8 @@
 use Rattle.std.specs.Prelude.{◌≡◌, ℕ, Bool, ◌==◌, ◌&&◌, ◌||◌, List, Option, Some, None, option_and_then}
 use Rattle.std.specs.List.{list_any}
 use Rattle.dactl_model.specs.declared.program.Class.{Class}
-use Rattle.dactl_syntax.specs.Declarations.{Home, same_home, Entity, AsModule, AsSymbol, AsPattern, Declaration}
-use Rattle.dactl_syntax.specs.Sight.{Import, home_given, is_given}
+use Rattle.dactl_meaning.specs.Declarations.{Home, same_home, Entity, AsModule, AsSymbol, AsPattern, Declaration}
+use Rattle.dactl_meaning.specs.Sight.{Import, home_given, is_given}
 use Rattle.dactl_symbols.specs.Declaring.{home_of}
 use Rattle.dactl_symbols.specs.Meanings.{meaning_in}
 use Rattle.dactl_symbols.specs.declared.sight.Link as code

@@ -2,12 +2,12 @@
 use Rattle.std.specs.Prelude.{ℕ, Bool, true, false, not, List, is_none, if◌then◌else◌, Option, Some, None}
 use Rattle.dactl_base.specs.declared.refusal.Refusal.{Refusal}
 use Rattle.dactl_base.specs.declared.refusal.Kind.TheVariants as kinds
-use Rattle.dactl_syntax.specs.declared.tree.Name.{Name}
-use Rattle.dactl_syntax.specs.declared.tree.NodeTree.{NodeTree}
-use Rattle.dactl_syntax.specs.declared.tree.ArgTree.{ArgTree}
-use Rattle.dactl_syntax.specs.declared.tree.NodeTree.TheFolds.{fold-NodeTree, fold-ArgTree}
-use Rattle.dactl_syntax.specs.Declarations.{Declaration, Entity, AsModule, AsSymbol, AsPattern}
-use Rattle.dactl_syntax.specs.Uses.{Use, node_uses_level, arg_uses_level, term_uses_level}
+use Rattle.dactl_meaning.specs.declared.tree.Name.{Name}
+use Rattle.dactl_meaning.specs.declared.tree.NodeTree.{NodeTree}
+use Rattle.dactl_meaning.specs.declared.tree.ArgTree.{ArgTree}
+use Rattle.dactl_meaning.specs.declared.tree.NodeTree.TheFolds.{fold-NodeTree, fold-ArgTree}
+use Rattle.dactl_meaning.specs.Declarations.{Declaration, Entity, AsModule, AsSymbol, AsPattern}
+use Rattle.dactl_meaning.specs.Uses.{Use, node_uses_level, arg_uses_level, term_uses_level}
 use Rattle.dactl_symbols.specs.Meanings.{First, meaning_in}
 use Rattle.dactl_symbols.specs.Sights.{Sights}
 use Rattle.dactl_symbols.specs.Scoping.{seen_in}

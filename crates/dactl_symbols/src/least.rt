@@ -1,7 +1,7 @@
 //! Of several faults of a text the one that is told.
 
 ghost use Rattle.std.specs.Prelude.{◌≡◌};
-ghost use Rattle.dactl_syntax.specs.Faults.{phase, rank};
+ghost use Rattle.dactl_meaning.specs.Faults.{phase, rank};
 ghost use Rattle.dactl_symbols.specs.Least.{precedes, sooner};
 
 use dactl_base::refusal::{Kind, Refusal};
@@ -19,7 +19,9 @@ fn phase_of(kind: Kind) -> u8
         | Kind::PublicTooStrong
         | Kind::NoInitial
         | Kind::TwoInitials
-        | Kind::TooMany => 3,
+        | Kind::TooMany
+        | Kind::NotAConstructor
+        | Kind::WrongArity => 3,
         Kind::PatternCycle => 4,
         Kind::RootNotRewritable
         | Kind::BinderInChoice

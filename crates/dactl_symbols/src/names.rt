@@ -8,8 +8,8 @@ use crate::least::lesser;
 use crate::survey::{Declared, Entity, Home};
 use dactl_base::refusal::{Kind, Refusal};
 use dactl_model::Memory;
-use indexmap::IndexMap;
 use std::alloc::Global;
+use std::collections::BTreeMap;
 use std::marker::Model;
 
 /// What a name means: what its first declaration says, and how many symbols are declared before it,
@@ -21,17 +21,18 @@ pub struct Meaning {
     pub number: u32,
 }
 
-/// The declarations of a text in their order, those before the text included.
+/// The declarations of a text in their order, those before the text included. What each name means
+/// is kept by the order of names: a text chooses its names, and could choose them for a hash.
 #[derive(Drop)]
 pub struct Names {
     declared: Vec<Declared>,
-    first: IndexMap<Vec<u8>, Meaning>,
+    first: BTreeMap<Vec<u8>, Meaning>,
     again: Option<Refusal>,
 }
 
 impl Model for Names {
     ghost use Rattle.std.specs.Prelude.{List, map};
-    ghost use Rattle.dactl_syntax.specs.Declarations.{Declaration};
+    ghost use Rattle.dactl_meaning.specs.Declarations.{Declaration};
     ghost use Rattle.dactl_symbols.specs.Declaring.{declaration_of};
     ghost use Rattle.dactl_symbols.specs.Meanings.{AreNames, found_in};
 
@@ -55,7 +56,7 @@ fn counted(symbols: u32, entity: Entity) -> u32
 /// Adds what a name means by this declaration. Where it means something already, that stays, and the
 /// answer is the fault.
 fn note(
-    first: &mut IndexMap<Vec<u8>, Meaning>,
+    first: &mut BTreeMap<Vec<u8>, Meaning>,
     alloc: Global,
     declared: &Declared,
     symbols: u32,
@@ -87,7 +88,7 @@ impl Names {
     pub fn new(alloc: Global, declared: Vec<Declared>) -> Result<Names, Memory>
         ensures { IfOk result (λ names. names ≡ map declaration_of declared.items) }
     {
-        let mut first = IndexMap::new(alloc);
+        let mut first = BTreeMap::new(alloc);
         let mut again = None;
         let mut symbols = 0u32;
         for one in &declared {

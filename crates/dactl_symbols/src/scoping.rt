@@ -1,8 +1,8 @@
 //! The scopes of a text, or its first fault.
 
 ghost use Rattle.std.specs.Prelude.{◌≡◌, IfOk, map};
-ghost use Rattle.dactl_syntax.specs.Faults.{TellsFaults};
-ghost use Rattle.dactl_syntax.specs.ScopeFaults.{ScopeFault};
+ghost use Rattle.dactl_meaning.specs.Faults.{TellsFaults};
+ghost use Rattle.dactl_meaning.specs.ScopeFaults.{ScopeFault};
 ghost use Rattle.dactl_symbols.specs.Declaring.{import_of};
 ghost use Rattle.dactl_symbols.specs.Counting.{flat_fault as a_flat_fault};
 ghost use Rattle.dactl_symbols.specs.Scoping.{IsScopesOf};
@@ -14,7 +14,7 @@ use crate::sight::Scopes;
 use crate::survey::{Import, Survey, look_through};
 use crate::uses::first_use_fault;
 use dactl_base::refusal::{Kind, Place, Refusal, TextFault};
-use dactl_syntax::tree::Text;
+use dactl_meaning::tree::Text;
 use std::alloc::Global;
 
 /// The first fault of the declarations, the imports and the counts.

@@ -3,8 +3,8 @@
 ghost use Rattle.std.specs.Prelude.{◌≡◌, ◌++◌, IfOk, OnOk, map, option_map};
 ghost use Rattle.std.specs.Option.{option_to_list};
 ghost use Rattle.std.specs.List.{filter_map};
-ghost use Rattle.dactl_syntax.specs.Declarations.{same_home, entity_symbol};
-ghost use Rattle.dactl_syntax.specs.Sight.{is_earlier as is_before, class_seen as has_class, entity_seen};
+ghost use Rattle.dactl_meaning.specs.Declarations.{same_home, entity_symbol};
+ghost use Rattle.dactl_meaning.specs.Sight.{is_earlier as is_before, class_seen as has_class, entity_seen};
 ghost use Rattle.dactl_symbols.specs.Declaring.{home_of, entity_of, declaration_of, import_of};
 ghost use Rattle.dactl_symbols.specs.Sights.{link_of, owned_of, owned_in, imported_in, has_link, AddsLink, AreLinks};
 ghost use Rattle.dactl_symbols.specs.Scoping.{told, seen_in, class_in, symbols_in};
@@ -13,9 +13,9 @@ use crate::names::{Meaning, Names};
 use crate::survey::{Declared, Entity, Home, Import};
 use dactl_model::Memory;
 use dactl_model::program::{Class, Symbol};
-use indexmap::IndexSet;
 use sqlite_items::{Items, at};
 use std::alloc::Global;
+use std::collections::BTreeSet;
 use std::marker::Model;
 
 /// What a module sees under a name: a symbol, by its number in a program and with the class that it
@@ -28,7 +28,7 @@ pub enum Seen {
 }
 
 /// The number of a module that imports, and the module that it imports.
-#[derive(Clone, Copy, Debug, PartialEq, Eq, Hash)]
+#[derive(Clone, Copy, Debug, PartialEq, Eq, PartialOrd, Ord)]
 struct Link {
     owner: usize,
     home: Home,
@@ -46,7 +46,7 @@ struct Owned {
 #[derive(Drop)]
 pub struct Scopes {
     names: Names,
-    links: IndexSet<Link>,
+    links: BTreeSet<Link>,
     symbols: Vec<Owned>,
 }
 
@@ -135,7 +135,7 @@ pub(crate) fn imported(names: &Names, import: &Import) -> Option<Home>
     }
 }
 
-fn add_link(links: &mut IndexSet<Link>, owner: usize, home: Option<Home>) -> Result<(), Memory>
+fn add_link(links: &mut BTreeSet<Link>, owner: usize, home: Option<Home>) -> Result<(), Memory>
     ensures { OnOk result (AddsLink (map link_of links.old.keys) (map link_of links.new.keys) owner (option_map home_of home)) }
 {
     if let Some(home) = home {
@@ -145,10 +145,10 @@ fn add_link(links: &mut IndexSet<Link>, owner: usize, home: Option<Home>) -> Res
 }
 
 /// The imports that count.
-fn links(alloc: Global, names: &Names, imports: &[Import]) -> Result<IndexSet<Link>, Memory>
+fn links(alloc: Global, names: &Names, imports: &[Import]) -> Result<BTreeSet<Link>, Memory>
     ensures { IfOk result (λ links. AreLinks names.now (map import_of imports.now) (map link_of links.keys)) }
 {
-    let mut links = IndexSet::new(alloc);
+    let mut links = BTreeSet::new(alloc);
     for import in imports {
         add_link(&mut links, import.owner, imported(names, import))?;
     }

@@ -2,20 +2,20 @@
 
 ghost use Rattle.std.specs.Prelude.{◌≡◌, ◌++◌, ◌∷◌, [], IfOk, OnOk, map, option_map};
 ghost use Rattle.std.specs.List.{flat_map, enumerate_from};
-ghost use Rattle.dactl_syntax.specs.Declarations.{Written, AsSymbol, built_in as a_built_in, built_in_names};
-ghost use Rattle.dactl_syntax.specs.ScopeFaults.{is_too_strong};
+ghost use Rattle.dactl_meaning.specs.Declarations.{Written, AsSymbol, built_in as a_built_in, built_in_names};
+ghost use Rattle.dactl_meaning.specs.ScopeFaults.{is_too_strong};
 ghost use Rattle.dactl_symbols.specs.Declaring.{entity_of, declaration_of, import_of};
 ghost use Rattle.dactl_symbols.specs.Finds.{finds_of, joined, joined_all, byte_of, strong_bytes, rule_bytes, item_finds, module_finds, text_finds};
 
 use dactl_base::refusal::Place;
+use dactl_meaning::tree::{Group, Item, Module, Name, RuleTree, Text};
 use dactl_model::Memory;
 use dactl_model::program::Class;
-use dactl_syntax::tree::{Group, Item, Module, Name, RuleTree, Text};
 use sqlite_items::Items;
 use std::alloc::Global;
 
 /// The module of a declaration: the built-in one, or the one of that number.
-#[derive(Clone, Copy, Debug, PartialEq, Eq, Hash)]
+#[derive(Clone, Copy, Debug, PartialEq, Eq, PartialOrd, Ord)]
 pub enum Home {
     Arithmetic,
     Written(usize),

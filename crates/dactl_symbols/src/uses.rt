@@ -2,7 +2,7 @@
 
 ghost use Rattle.std.specs.Prelude.{◌≡◌};
 ghost use Rattle.std.specs.List.{flat_map, enumerate_from};
-ghost use Rattle.dactl_syntax.specs.Uses.{pattern_uses, term_uses, part_uses, rule_uses, item_uses, uses};
+ghost use Rattle.dactl_meaning.specs.Uses.{pattern_uses, term_uses, part_uses, rule_uses, item_uses, uses};
 ghost use Rattle.dactl_symbols.specs.Least.{least_by};
 ghost use Rattle.dactl_symbols.specs.UseFaults.{is_known as is_known_in, use_fault as the_fault, use_at, node_uses, arg_uses};
 
@@ -10,7 +10,7 @@ use crate::least::lesser;
 use crate::sight::Scopes;
 use crate::survey::Entity;
 use dactl_base::refusal::{Kind, Refusal};
-use dactl_syntax::tree::{
+use dactl_meaning::tree::{
     ArgTree, Group, Item, Name, NodeTree, Part, PatternTree, RuleTree, Sign, TermTree, Text,
 };
 
@@ -60,7 +60,9 @@ fn pattern(scopes: &Scopes, owner: usize, tree: &PatternTree) -> Option<Refusal>
         }
         PatternTree::Any
         | PatternTree::Int
+        | PatternTree::Char
         | PatternTree::Integer { .. }
+        | PatternTree::Letter { .. }
         | PatternTree::Variable { .. } => None,
     }
 }
@@ -92,7 +94,7 @@ fn node(scopes: &Scopes, owner: usize, tree: &NodeTree) -> Option<Refusal>
     ensures { result ≡ least_by (the_fault scopes.now owner) (node_uses tree.now) }
 {
     match tree {
-        NodeTree::Integer { .. } => None,
+        NodeTree::Integer { .. } | NodeTree::Letter { .. } => None,
         NodeTree::Sym { name, args } => {
             let own = use_fault(scopes, owner, name, false);
             lesser(own, node_args(scopes, owner, args.as_slice()))

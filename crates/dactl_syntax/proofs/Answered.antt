@@ -13,39 +13,49 @@ use Rattle.dactl_tokens.specs.declared.token.Token.{Token}
 use Rattle.dactl_tokens.proofs.Reading.{lexes_once}
 use Rattle.dactl_syntax.specs.declared.token.Sort.TheVariants as s
 use Rattle.dactl_syntax.specs.declared.token.Terminal.{Terminal}
-use Rattle.dactl_syntax.specs.declared.tree.Module.{Module}
-use Rattle.dactl_syntax.specs.declared.tree.Text.{Text}
+use Rattle.dactl_meaning.specs.declared.tree.Module.{Module}
+use Rattle.dactl_meaning.specs.declared.tree.Text.{Text}
 use Rattle.dactl_syntax.specs.Sort.{same_sort}
 use Rattle.dactl_syntax.specs.Productions.{Tok, text}
-use Rattle.dactl_syntax.specs.Reading.{by, modules_at, refusal_of}
+use Rattle.dactl_syntax.specs.Reading.{by, text_at, refusal_of}
 use Rattle.dactl_syntax.specs.Seen.{tokens_seen, toks}
 use Rattle.dactl_syntax.specs.Answer.{most_open, is_bracket, IsTree, next_place, IsFirstFault}
 use Rattle.dactl_syntax.specs.Laws.{Reads}
 use Rattle.dactl_syntax.proofs.ModuleLaws.{fit_text}
 use Rattle.dactl_syntax.proofs.TextGrowth.{g_text}
 
-pub text_laws : Bounded is_bracket text modules_at (by (same_sort s.Module))
+pub text_laws : Bounded is_bracket text text_at (by (same_sort s.Module))
 text_laws = record { exact = λ n. (fit_text n).exact; grows = g_text }
 
-abbrev reading : List Tok → Result (List Module) Fault
-reading l = read_all (modules_at most_open) l
+abbrev reading : List Tok → Result (ℕ × List Module) Fault
+reading l = read_all (text_at most_open) l
 
 -- ---- a tree
 
-pub read_tree : (bytes : List ℕ) (tokens : List Token) (ms : List Module) → reading (tokens_seen bytes tokens) ≡ Ok ms → IsTree bytes tokens (record { modules = ms; length = length bytes })
-read_tree bytes tokens ms e = record { derives = read_derives text_laws most_open (tokens_seen bytes tokens) ms e; length = refl }
+pub read_tree : (bytes : List ℕ) (tokens : List Token) (v : ℕ × List Module) → reading (tokens_seen bytes tokens) ≡ Ok v → IsTree bytes tokens (record { language = v.0; modules = v.1; length = length bytes })
+read_tree bytes tokens v e = record { derives = read_derives text_laws most_open (tokens_seen bytes tokens) v e; length = refl }
 
-tree_read : (bytes : List ℕ) (tokens : List Token) (t : Text) → IsTree bytes tokens t → reading (tokens_seen bytes tokens) ≡ Ok t.modules
-tree_read bytes tokens t w = derives_read text_laws most_open (tokens_seen bytes tokens) t.modules w.derives
+tree_read : (bytes : List ℕ) (tokens : List Token) (t : Text) → IsTree bytes tokens t → reading (tokens_seen bytes tokens) ≡ Ok (t.language, t.modules)
+tree_read bytes tokens t w = derives_read text_laws most_open (tokens_seen bytes tokens) (t.language, t.modules) w.derives
 
-text_is : (t u : Text) → t.modules ≡ u.modules → t.length ≡ u.length → t ≡ u
-text_is t u m n = ap (λ (k : List Module). record { modules = k; length = t.length }) m ∙ ap (λ (k : ℕ). record { modules = u.modules; length = k }) n
+text_is : (t u : Text) → t.language ≡ u.language → t.modules ≡ u.modules → t.length ≡ u.length → t ≡ u
+text_is t u l m n =
+    ap (λ (k : ℕ). record { language = k; modules = t.modules; length = t.length }) l
+    ∙ ap (λ (k : List Module). record { language = u.language; modules = k; length = t.length }) m
+    ∙ ap (λ (k : ℕ). record { language = u.language; modules = u.modules; length = k }) n
 
-pub read_only : (bytes : List ℕ) (tokens : List Token) (ms : List Module) → reading (tokens_seen bytes tokens) ≡ Ok ms → (t : Text) → IsTree bytes tokens t → record { modules = ms; length = length bytes } ≡ t
-read_only bytes tokens ms e t w =
+-- what is read alike is the same
+same_text : (l : List Tok) (a b : Text) → reading l ≡ Ok (a.language, a.modules) → reading l ≡ Ok (b.language, b.modules) → a.length ≡ b.length → a ≡ b
+same_text l a b p q n =
+    let pair : (a.language, a.modules) ≡ (b.language, b.modules) = cc in
+    text_is a b (ap (λ (v : ℕ × List Module). v.0) pair) (ap (λ (v : ℕ × List Module). v.1) pair) n
+
+pub read_only : (bytes : List ℕ) (tokens : List Token) (v : ℕ × List Module) → reading (tokens_seen bytes tokens) ≡ Ok v → (t : Text) → IsTree bytes tokens t → record { language = v.0; modules = v.1; length = length bytes } ≡ t
+read_only bytes tokens v e t w =
     let f = tree_read bytes tokens t w in
-    let same : ms ≡ t.modules = cc in
-    text_is (record { modules = ms; length = length bytes }) t same (sym w.length)
+    let language : v.0 ≡ t.language = cc in
+    let modules : v.1 ≡ t.modules = cc in
+    text_is (record { language = v.0; modules = v.1; length = length bytes }) t language modules (sym w.length)
 
 -- ---- a fault
 
@@ -95,8 +105,8 @@ fault_read bytes tokens r (inr w) =
     let place = ap (next_place (length bytes)) (from_fault l first.front (first.bracket ∷ first.rest) u.left first.parts first.place) in
     record { fault = TooDeep u.left; read = too_deep_read text_laws most_open l u.left first; refusal = refusal_is r kinds.TooDeep (next_place (length bytes) (drop (length l - u.left) l)) w.0 (u.at ∙ sym place) }
 
-pub never_both : (bytes : List ℕ) (tokens : List Token) (ms : List Module) → reading (tokens_seen bytes tokens) ≡ Ok ms → (r : Refusal) → IsFirstFault bytes tokens r → ⊥
-never_both bytes tokens ms e r w = let k = fault_read bytes tokens r w in let f = k.read in cc
+pub never_both : (bytes : List ℕ) (tokens : List Token) (v : ℕ × List Module) → reading (tokens_seen bytes tokens) ≡ Ok v → (r : Refusal) → IsFirstFault bytes tokens r → ⊥
+never_both bytes tokens v e r w = let k = fault_read bytes tokens r w in let f = k.read in cc
 
 pub no_tree : (bytes : List ℕ) (tokens : List Token) (f : Fault) → reading (tokens_seen bytes tokens) ≡ Err f → (t : Text) → IsTree bytes tokens t → ⊥
 no_tree bytes tokens f e t w = let g = tree_read bytes tokens t w in cc
@@ -115,9 +125,7 @@ one_tree bytes a b p q =
     let same = lexes_once bytes p.tokens q.tokens p.lexes q.lexes in
     let read = tree_read bytes p.tokens a p.is_tree in
     let w : IsTree bytes p.tokens b = subst (λ (k : List Token). IsTree bytes k b) (sym same) q.is_tree in
-    let read' = tree_read bytes p.tokens b w in
-    let modules : a.modules ≡ b.modules = cc in
-    text_is a b modules (p.is_tree.length ∙ sym w.length)
+    same_text (tokens_seen bytes p.tokens) a b read (tree_read bytes p.tokens b w) (p.is_tree.length ∙ sym w.length)
 
 -- ---- in the code's terms
 
@@ -130,5 +138,5 @@ place_at bytes end ts i j t same lt e = ap (λ (x : Terminal). x.from) e ∙ at 
     at (u ∷ ts) (suc i) lt = at ts i (omega arith)
 
 -- the parser's tokens, read as those of the text
-pub as_tokens : (bytes : List ℕ) (tokens : List Token) (items slice : List Terminal) (r : Result (List Module) Fault) → slice ≡ items → toks bytes items ≡ tokens_seen bytes tokens → reading (toks bytes slice) ≡ r → reading (tokens_seen bytes tokens) ≡ r
+pub as_tokens : (bytes : List ℕ) (tokens : List Token) (items slice : List Terminal) (r : Result (ℕ × List Module) Fault) → slice ≡ items → toks bytes items ≡ tokens_seen bytes tokens → reading (toks bytes slice) ≡ r → reading (tokens_seen bytes tokens) ≡ r
 as_tokens bytes tokens items slice r a b e = subst (λ (l : List Tok). reading l ≡ r) (ap (toks bytes) a ∙ b) e

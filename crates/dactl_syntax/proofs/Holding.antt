@@ -69,9 +69,9 @@ each_numbered P n (x ∷ xs) h = (h.0, each_numbered P (n + 1) xs h.1)
 
 -- ---- tokens of a text
 
--- names are spelled as names, and values have 64 bits
-abbrev pub AreTold : List Tok → Type 0
-AreTold l = Each IsTold l
+-- names are spelled as names of the language, and values are its own
+abbrev pub AreTold : Bool → List Tok → Type 0
+AreTold wide l = Each (IsTold wide) l
 
-pub split_told : Splits AreTold
-split_told u v g = each_split IsTold u v g
+pub split_told : (wide : Bool) → Splits (AreTold wide)
+split_told wide u v g = each_split (IsTold wide) u v g

@@ -1,40 +1,38 @@
 -- In the tree of a text the left sides of a rule stand behind its pattern, since the places of tokens rise.
-use Rattle.std.proofs.Common.{◌≡◌, ℕ, zero, suc, ◌<◌, ◌≤◌, Bool, true, false, cond, inl, inr, List, [], ◌∷◌, ◌++◌, map, Option, Some, None, All, sym, ap, subst, ◌∙◌, arith}
-use Rattle.std.specs.List.{AllByRecursion as Each, flat_map, enumerate_from}
-use Rattle.std.proofs.lemmas.List.Elements.{All-from_recursion, recursion_from_All}
-use Rattle.dactl_base.specs.declared.refusal.Kind.{Kind}
-use Rattle.dactl_base.specs.declared.refusal.Kind.TheVariants as kinds
-use Rattle.dactl_base.specs.declared.refusal.Refusal.{Refusal}
-use Rattle.dactl_grammar.specs.Grammar.{one, WholeRow, choice, means, placed, place_of as first_place}
-use Rattle.dactl_grammar.proofs.Holds.{Splits, Holds, IfThere, holds_one, holds_row, holds_choice, holds_maybe, holds_many, holds_means, holds_barred}
+use Rattle.std.proofs.Common.{◌≡◌, ℕ, zero, suc, ◌<◌, ◌≤◌, Bool, true, false, inl, inr, List, [], ◌∷◌, ◌++◌, map, Option, Some, None, All, sym, ap, subst, ◌∙◌, arith}
+use Rattle.std.specs.List.{AllByRecursion as Each, flat_map}
+use Rattle.std.proofs.lemmas.List.Elements.{All-from_recursion}
+use Rattle.dactl_grammar.specs.Grammar.{one, WholeRow, choice, maybe, means, placed, place_of as first_place}
+use Rattle.dactl_grammar.proofs.Holds.{Splits, Holds, IfThere, holds_weaker, holds_one, holds_row, holds_choice, holds_maybe, holds_many, holds_means, holds_barred}
 use Rattle.dactl_syntax.specs.declared.token.Sort.TheVariants as s
-use Rattle.dactl_syntax.specs.declared.tree.Name.{Name}
-use Rattle.dactl_syntax.specs.declared.tree.Sign.{Sign}
-use Rattle.dactl_syntax.specs.declared.tree.PatternTree.{PatternTree}
-use Rattle.dactl_syntax.specs.declared.tree.PatternTree.TheVariants as p
-use Rattle.dactl_syntax.specs.declared.tree.PatternTree.TheVariants.{rolls-Any, rolls-Int, rolls-Integer, rolls-Sym, rolls-Variable, rolls-Binder, rolls-Chain}
-use Rattle.dactl_syntax.specs.declared.tree.PatternTree.TheOpen.{PatternTree-F}
-use Rattle.dactl_syntax.specs.declared.tree.PatternTree.TheViews.{roll-PatternTree}
-use Rattle.dactl_syntax.specs.declared.tree.PatternTree.TheFolds.{fold-roll-PatternTree, map-PatternTree}
-use Rattle.dactl_syntax.specs.declared.tree.Part.{Part}
-use Rattle.dactl_syntax.specs.declared.tree.RuleTree.{RuleTree}
-use Rattle.dactl_syntax.specs.declared.tree.Group.{Group}
-use Rattle.dactl_syntax.specs.declared.tree.Item.{Item}
-use Rattle.dactl_syntax.specs.declared.tree.Item.TheVariants as item
-use Rattle.dactl_syntax.specs.declared.tree.Module.{Module}
-use Rattle.dactl_syntax.specs.declared.tree.Text.{Text}
-use Rattle.dactl_syntax.specs.Productions.{Tok, Part_of, is, behind, before, pair, upper, lower, name_of, term, args, any_of, int_of, number_of, pattern_sym_of, base, piece_at, piece_of, piece, operator, chain_at, chain_of, pattern_over, squares, rounds, pattern, part_term, part_redirect, part, rewrites_of, redirects_of, rewriting, redirecting, rule_of, rule, group_of, group, imports_of, symbols_of, pattern_named_of, rules_of, rules, initial_of, an_item, is_name, module_of, a_module, text}
-use Rattle.dactl_syntax.specs.Expansion.{Occurrence, occurrences_level, occurrences_in, occurrences, is_among, pattern_expansion}
-use Rattle.dactl_syntax.specs.RuleFaults.{again, place_of, binders_in_choice, named_twice_in_pattern, wide_in_pattern, widths_level, widths, lefts_of, at_if, is_too_wide, each_at, pattern_faults}
-use Rattle.dactl_syntax.specs.Contractum.{name_list, left_of_part}
-use Rattle.dactl_syntax.specs.Order.{pattern_places, left_places, IsInOrder, PlacesInOrder}
-use Rattle.dactl_syntax.specs.Declarations.{Placed, PlacedGroup, PlacedRule, items_of, items, item_groups, groups, rules as all_rules}
+use Rattle.dactl_meaning.specs.declared.tree.Name.{Name}
+use Rattle.dactl_meaning.specs.declared.tree.Sign.{Sign}
+use Rattle.dactl_meaning.specs.declared.tree.PatternTree.{PatternTree}
+use Rattle.dactl_meaning.specs.declared.tree.PatternTree.TheVariants as p
+use Rattle.dactl_meaning.specs.declared.tree.PatternTree.TheVariants.{rolls-Any, rolls-Int, rolls-Char, rolls-Integer, rolls-Letter, rolls-Sym, rolls-Variable, rolls-Binder, rolls-Chain}
+use Rattle.dactl_meaning.specs.declared.tree.PatternTree.TheOpen.{PatternTree-F}
+use Rattle.dactl_meaning.specs.declared.tree.PatternTree.TheViews.{roll-PatternTree}
+use Rattle.dactl_meaning.specs.declared.tree.PatternTree.TheFolds.{fold-roll-PatternTree, map-PatternTree}
+use Rattle.dactl_meaning.specs.declared.tree.Part.{Part}
+use Rattle.dactl_meaning.specs.declared.tree.RuleTree.{RuleTree}
+use Rattle.dactl_meaning.specs.declared.tree.Group.{Group}
+use Rattle.dactl_meaning.specs.declared.tree.Item.{Item}
+use Rattle.dactl_meaning.specs.declared.tree.Item.TheVariants as item
+use Rattle.dactl_meaning.specs.declared.tree.Module.{Module}
+use Rattle.dactl_meaning.specs.declared.tree.Text.{Text}
+use Rattle.dactl_syntax.specs.Productions.{Tok, Part_of, is, sign, behind, before, pair, upper, lower, name_of, term, args, any_of, int_of, char_of, number_of, letter, character_of, pattern_sym_of, base, piece_at, piece_of, piece, operator, chain_at, chain_of, pattern_over, squares, rounds, pattern, part_term, part_redirect, part, rewrites_of, redirects_of, rewriting, redirecting, rule_of, rule, group_of, group, imports_of, symbols_of, pattern_named_of, rules_of, rules, initial_of, an_item, is_name, module_of, a_module, language_of, text}
+use Rattle.dactl_meaning.specs.Expansion.{Occurrence, occurrences_level, occurrences_in, occurrences}
+use Rattle.dactl_meaning.specs.RuleFaults.{place_of, widths_level, widths, lefts_of}
+use Rattle.dactl_meaning.specs.Contractum.{name_list, left_of_part}
+use Rattle.dactl_meaning.specs.Order.{pattern_places, left_places, IsInOrder, PlacesInOrder}
+use Rattle.dactl_meaning.specs.Declarations.{groups, rules as all_rules}
 use Rattle.dactl_syntax.specs.Seen.{tokens_seen}
 use Rattle.dactl_syntax.specs.Answer.{most_open}
 use Rattle.dactl_syntax.specs.Laws.{Reads}
 use Rattle.dactl_syntax.proofs.TokenFacts.{RisesFrom, rises_sooner, tokens_are_seen}
-use Rattle.dactl_syntax.proofs.Holding.{holds_anything, holds_behind, holds_before, Some_of, holds_listed, holds_several, holds_separated, each_append, each_split, each_weaker, each_map, each_flat, each_filter, each_numbered}
+use Rattle.dactl_syntax.proofs.Holding.{holds_anything, holds_behind, holds_before, Some_of, holds_listed, holds_several, holds_separated, each_append, each_split, each_weaker, each_map, each_flat}
 use Rattle.dactl_syntax.proofs.PatternLaws.{solid_pattern_at}
+use Rattle.dactl_syntax.proofs.Listed.{rules_each}
 
 -- ---- names stand where tokens stand
 
@@ -103,8 +101,14 @@ module _ (G : ℕ → Type 0) where
   int_placed : IsPlaced p.Int
   int_placed = from_layer p.Int PatternTree-F.Int rolls-Int (λ choice. tt) tt
 
+  char_placed : IsPlaced p.Char
+  char_placed = from_layer p.Char PatternTree-F.Char rolls-Char (λ choice. tt) tt
+
   number_placed : (t : Tok) → IsPlaced (number_of t)
   number_placed t = from_layer (p.Integer t.value) (PatternTree-F.Integer t.value) (rolls-Integer t.value) (λ choice. tt) tt
+
+  character_placed : (t : Tok) → IsPlaced (character_of t)
+  character_placed t = from_layer (p.Letter (letter t.word)) (PatternTree-F.Letter (letter t.word)) (rolls-Letter (letter t.word)) (λ choice. tt) tt
 
   symbol_placed : (name : Name) (given : Option (List PatternTree)) → IsPlacedName name → IfThere (Each IsPlaced) given → IsPlaced (pattern_sym_of (name, given))
   symbol_placed name None h k = from_layer (p.Sym name []) (PatternTree-F.Sym name []) (rolls-Sym name []) (λ choice. tt) (h, tt)
@@ -125,8 +129,10 @@ module _ (G : ℕ → Type 0) where
     base_placed =
         holds_choice (holds_means any_of IsPlaced (λ t h. any_placed) (holds_one (is s.Any)))
         (holds_choice (holds_means int_of IsPlaced (λ t h. int_placed) (holds_one (is s.Int)))
+        (holds_choice (holds_means char_of IsPlaced (λ t h. char_placed) (holds_one (is s.Char)))
         (holds_choice (holds_means number_of IsPlaced (λ t h. number_placed t) (holds_one (is s.Integer)))
-        (holds_choice (holds_means pattern_sym_of IsPlaced (λ v h. symbol_placed v.0 v.1 h.0 h.1) (holds_row split_stand upper_placed (λ _. holds_maybe square_placed))) round_placed)))
+        (holds_choice (holds_means character_of IsPlaced (λ t h. character_placed t) (holds_one (is s.Character)))
+        (holds_choice (holds_means pattern_sym_of IsPlaced (λ v h. symbol_placed v.0 v.1 h.0 h.1) (holds_row split_stand upper_placed (λ _. holds_maybe square_placed))) round_placed)))))
 
     a_piece_placed : Holds Stand (piece square round) IsPlaced
     a_piece_placed = holds_choice (holds_means piece_of IsPlaced (λ v h. piece_placed v.0 v.1 h.0 h.1) (holds_row split_stand lower_placed (λ _. holds_maybe (holds_behind s.Colon split_stand base_placed)))) base_placed
@@ -288,102 +294,16 @@ module _ (n : ℕ) where
   module_raises : Raises (a_module n) IsOrderedModule
   module_raises = holds_means module_of IsOrderedModule (λ v h. h.1.0) (holds_behind s.Module splits_rise (holds_row splits_rise (holds_anything (before upper s.Semicolon)) (λ name. holds_row splits_rise (holds_many splits_rise item_raises) (λ _. holds_anything (behind s.EndModule (before (one (is_name name)) s.Semicolon))))))
 
-  text_raises : Raises (text n) (Some_of IsOrderedModule)
-  text_raises = holds_several splits_rise module_raises
+  -- the modules of a text are in order
+  abbrev IsOrderedText : ℕ × List Module → Type 0
+  IsOrderedText v = Some_of IsOrderedModule v.1
+
+  text_raises : Raises (text n) IsOrderedText
+  text_raises = holds_weaker _ IsOrderedText (λ v h. h.1) (holds_row splits_rise (holds_anything (means language_of (maybe (sign s.Header)))) (λ _. holds_several splits_rise module_raises))
 
 -- ---- the rules of a text
 
-module _ (tree : Text) (given : Each IsOrderedModule tree.modules) where
-  abbrev IsOrderedPlaced : Placed → Type 0
-  IsOrderedPlaced i = IsOrderedItem i.item
-
-  abbrev AreOrdered : PlacedGroup → Type 0
-  AreOrdered g = IsOrderedGroup g.group
-
-  ordered_items_of : (m : ℕ × Module) → IsOrderedModule m.1 → Each IsOrderedPlaced (items_of m)
-  ordered_items_of m h = each_map IsOrderedPlaced (λ i. record { owner = m.0; number = i.0; item = i.1 }) (enumerate_from 0 m.1.items) (each_numbered IsOrderedItem 0 m.1.items h)
-
-  ordered_items : Each IsOrderedPlaced (items tree)
-  ordered_items = each_flat IsOrderedPlaced items_of (enumerate_from 0 tree.modules)
-      (each_weaker (λ (m : ℕ × Module). IsOrderedModule m.1) (λ m. Each IsOrderedPlaced (items_of m)) ordered_items_of (enumerate_from 0 tree.modules) (each_numbered IsOrderedModule 0 tree.modules given))
-
-  ordered_groups_of : (m : ℕ) (t : Item) → IsOrderedItem t → Each AreOrdered (item_groups m t)
-  ordered_groups_of m (item.Rules groups) h = each_map AreOrdered _ groups h
-  ordered_groups_of m (item.Imports imported) h = tt
-  ordered_groups_of m (item.Symbols seen public declared) h = tt
-  ordered_groups_of m (item.Named public name pattern) h = tt
-  ordered_groups_of m (item.Initial place terms) h = tt
-
-  ordered_groups : Each AreOrdered (groups tree)
-  ordered_groups = each_flat AreOrdered _ (items tree) (each_weaker IsOrderedPlaced _ (λ i h. ordered_groups_of i.owner i.item h) (items tree) ordered_items)
-
-  ordered_rules : Each (λ (r : PlacedRule). IsInOrder r.rule) (all_rules tree)
-  ordered_rules = each_flat (λ (r : PlacedRule). IsInOrder r.rule) _ (groups tree)
-      (each_weaker AreOrdered _ (λ g h. each_map (λ (r : PlacedRule). IsInOrder r.rule) _ g.group.rules h) (groups tree) ordered_groups)
-
 pub places_stand_in_order : (bytes : List ℕ) (tree : Text) → Reads bytes tree → PlacesInOrder tree
 places_stand_in_order bytes tree r =
-    All-from_recursion _ (all_rules tree) (ordered_rules tree ((text_raises most_open).of (tokens_seen bytes r.tokens) tree.modules (0, (tokens_are_seen bytes r.tokens r.lexes).rise) r.is_tree.derives).each)
-
--- ---- the faults of a pattern
-
-each_unmap : {X Y : Type 0} (P : Y → Type 0) (f : X → Y) (xs : List X) → Each P (map f xs) → Each (λ x. P (f x)) xs
-each_unmap P f [] h = tt
-each_unmap P f (x ∷ xs) h = (h.0, each_unmap P f xs h.1)
-
-each_again : (P : Name → Type 0) (seen : List (List ℕ)) (names : List Name) → Each P names → Each P (again seen names)
-each_again P seen [] h = tt
-each_again P seen (n ∷ names) h = kept (is_among seen n.text) (each_again P seen names h.1) (each_again P (n.text ∷ seen) names h.1)
-  where
-    kept : (b : Bool) → Each P (again seen names) → Each P (again (n.text ∷ seen) names) → Each P (cond b (n ∷ again seen names) (again (n.text ∷ seen) names))
-    kept true k l = (h.0, k)
-    kept false k l = l
-
-each_if : (P : ℕ → Type 0) (b : Bool) (place : ℕ) → P place → Each P (at_if b place)
-each_if P true place h = (h, tt)
-each_if P false place h = tt
-
--- each fault of a rule's pattern stands before each left side
-pub faults_precede : (tree : Text) (m : ℕ) (r : RuleTree) → IsInOrder r → All (λ f. All (λ left. f.place.byte < left) (left_places r)) (pattern_faults tree m false r.place.byte r.pattern)
-faults_precede tree m r h =
-    All-from_recursion Fault (pattern_faults tree m false r.place.byte r.pattern)
-    (each_append Fault _ _ (each_append Fault _ _ (each_append Fault _ _ in_choice wide) whole) twice)
-  where
-    Precedes : ℕ → Type 0
-    Precedes place = All (λ left. place < left) (left_places r)
-
-    Fault : Refusal → Type 0
-    Fault f = Precedes f.place.byte
-
-    Variable : Occurrence → Type 0
-    Variable o = Precedes (place_of o.name)
-
-    Symbol : Name × ℕ → Type 0
-    Symbol w = Precedes (place_of w.0)
-
-    all : Each Precedes (pattern_places r)
-    all = recursion_from_All Precedes (pattern_places r) h
-
-    parts : Each Precedes (map (λ (o : Occurrence). place_of o.name) (occurrences r.pattern)) × Each Precedes (map (λ (w : Name × ℕ). place_of w.0) (widths r.pattern))
-    parts = each_split Precedes (map (λ (o : Occurrence). place_of o.name) (occurrences r.pattern)) (map (λ (w : Name × ℕ). place_of w.0) (widths r.pattern)) all.1
-
-    variables : Each Variable (occurrences r.pattern)
-    variables = each_unmap Precedes (λ (o : Occurrence). place_of o.name) (occurrences r.pattern) parts.0
-
-    symbols : Each Symbol (widths r.pattern)
-    symbols = each_unmap Precedes (λ (w : Name × ℕ). place_of w.0) (widths r.pattern) parts.1
-
-    at_each : (kind : Kind) (places : List ℕ) → Each Precedes places → Each Fault (each_at kind places)
-    at_each kind places k = each_map Fault (λ place. record { kind = kind; place = record { byte = place } }) places k
-
-    in_choice : Each Fault (each_at kinds.BinderInChoice (binders_in_choice false r.pattern))
-    in_choice = at_each kinds.BinderInChoice _ (each_map Precedes _ _ (each_filter Variable _ (occurrences r.pattern) (each_weaker Variable _ (λ o k e. k) (occurrences r.pattern) variables)))
-
-    wide : Each Fault (each_at kinds.TooWide (wide_in_pattern r.pattern))
-    wide = at_each kinds.TooWide _ (each_map Precedes _ _ (each_filter Symbol _ (widths r.pattern) (each_weaker Symbol _ (λ w k e. k) (widths r.pattern) symbols)))
-
-    whole : Each Fault (each_at kinds.TooWide (at_if (is_too_wide false (pattern_expansion tree m r.pattern) r.pattern) r.place.byte))
-    whole = at_each kinds.TooWide _ (each_if Precedes (is_too_wide false (pattern_expansion tree m r.pattern) r.pattern) r.place.byte all.0)
-
-    twice : Each Fault (each_at kinds.NamedTwice (named_twice_in_pattern r.pattern))
-    twice = at_each kinds.NamedTwice _ (each_map Precedes place_of _ (each_again (λ n. Precedes (place_of n)) [] _ (each_map (λ n. Precedes (place_of n)) (λ (o : Occurrence). o.name) _ (each_filter Variable _ (occurrences r.pattern) (each_weaker Variable _ (λ o k e. k) (occurrences r.pattern) variables)))))
+    let given = ((text_raises most_open).of (tokens_seen bytes r.tokens) (tree.language, tree.modules) (0, (tokens_are_seen bytes r.tokens r.lexes).rise) r.is_tree.derives).each in
+    All-from_recursion _ (all_rules tree) (rules_each IsOrderedItem tree given IsOrderedGroup IsInOrder (λ gs h. h) (λ g h. h))

@@ -13,6 +13,9 @@ pub mod Written
 pub mod Numbers
 pub mod TokenFacts
 pub mod Holding
+pub mod Listed
+pub mod Language
+pub mod Narrow
 pub mod Spelled
 pub mod InOrder
 pub mod Words

@@ -1,15 +1,15 @@
 -- Reading items, modules and texts is exact for their grammar.
 use Rattle.std.proofs.Common.{◌≡◌, ℕ, Bool, true, false, inl, inr, List, [], ◌∷◌, refl}
-use Rattle.std.specs.Prelude.{◌||◌, ◌&&◌, is_some}
+use Rattle.std.specs.Prelude.{◌||◌, is_some}
 use Rattle.std.specs.Str.{bytes_eq}
 use Rattle.dactl_syntax.specs.declared.token.Sort.{Sort}
 use Rattle.dactl_syntax.specs.declared.token.Sort.TheVariants as s
-use Rattle.dactl_syntax.specs.declared.tree.Name.{Name}
+use Rattle.dactl_meaning.specs.declared.tree.Name.{Name}
 use Rattle.dactl_syntax.specs.Sort.{same_sort, starts_term, starts_piece, is_class, starts_item}
 use Rattle.dactl_grammar.specs.Grammar.{StartsOne, one, row, choice, maybe, many, means}
 use Rattle.dactl_grammar.specs.Reader.{read_one}
-use Rattle.dactl_syntax.specs.Productions.{Tok, is, sign, behind, before, pair, several, separated, upper, term, args, pattern, group, names, imports_of, imports, class_at, class, symbols_of, symbols, pattern_named_of, named, rules_of, rules, initial_of, initial, an_item, is_name, module_of, a_module, text}
-use Rattle.dactl_syntax.specs.Reading.{by, comma_upper_at, comma_term_at, terms_at, items_at, names_at, imports_at, class_reads, public_class_at, public_at, symbols_at, named_at, rules_at, initial_at, item_at, module_end, module_at, modules_at}
+use Rattle.dactl_syntax.specs.Productions.{Tok, is, sign, behind, before, pair, several, separated, upper, term, args, pattern, group, names, imports_of, imports, class_at, class, symbols_of, symbols, pattern_named_of, named, rules_of, rules, initial_of, initial, an_item, is_name, module_of, a_module, language_of, text}
+use Rattle.dactl_syntax.specs.Reading.{by, comma_upper_at, comma_term_at, terms_at, items_at, names_at, imports_at, class_reads, public_class_at, public_at, symbols_at, named_at, rules_at, initial_at, item_at, module_end, module_at, modules_at, language_at, text_at}
 use Rattle.dactl_grammar.proofs.Exact.{exact_one}
 use Rattle.dactl_syntax.proofs.Sorts.{first_of_and}
 use Rattle.dactl_syntax.proofs.Fits.{none, Solid, Fit, fit_sign, solid_sign, solid_means, solid_row_first, solid_row_second, a_row, a_choice, a_maybe, a_many, a_meaning}
@@ -27,6 +27,13 @@ a_test c f h = record { exact = exact_one c; starts = starts }
 
 pub solid_test : (c : Tok → Bool) → Solid (one c)
 solid_test c a w = absurd cc
+
+pub fit_language : Fit (means language_of (maybe (sign s.Header))) language_at (same_sort s.Header) (same_sort s.Header)
+unfolding same_sort language_at
+fit_language = a_meaning language_of (a_maybe (same_sort s.Header) (fit_sign s.Header) (solid_sign s.Header) refl refl)
+
+abbrev starts_text : Sort → Bool
+starts_text t = same_sort s.Header t || same_sort s.Module t
 
 abbrev goes_on_list : Sort → Bool
 goes_on_list s.Comma = true
@@ -169,6 +176,13 @@ module _ (n : ℕ) where
   pub solid_module : Solid (a_module n)
   solid_module = solid_means module_of (behind s.Module (row (before upper s.Semicolon) (λ name. pair (many (an_item n)) (behind s.EndModule (before (one (is_name name)) s.Semicolon))))) (solid_behind s.Module (row (before upper s.Semicolon) (λ name. pair (many (an_item n)) (behind s.EndModule (before (one (is_name name)) s.Semicolon)))))
 
-  pub fit_text : Fit (text n) (modules_at n) (same_sort s.Module) (same_sort s.Module)
+  pub solid_modules : Solid (several (a_module n))
+  solid_modules = solid_listed (a_module n) (a_module n) solid_module
+
+  pub fit_modules : Fit (several (a_module n)) (modules_at n) (same_sort s.Module) (same_sort s.Module)
   unfolding same_sort modules_at
-  fit_text = a_list (same_sort s.Module) fit_module solid_module fit_module solid_module refl refl refl refl refl refl refl
+  fit_modules = a_list (same_sort s.Module) fit_module solid_module fit_module solid_module refl refl refl refl refl refl refl
+
+  pub fit_text : Fit (text n) (text_at n) starts_text (same_sort s.Module)
+  unfolding same_sort text_at
+  fit_text = a_row starts_text (same_sort s.Module) fit_language (λ _. fit_modules) refl refl (inl (λ _. solid_modules)) refl (inr refl)

@@ -1,17 +1,17 @@
--- The decimal text of an integer of 64 bits spells it.
+-- The decimal text of an integer spells it.
 use Rattle.std.proofs.Common.{◌≡◌, ℕ, zero, suc, ◌+◌, ◌-◌, ◌*◌, ◌/◌, ◌%◌, ◌^◌, ◌<◌, ◌≤◌, Bool, true, false, cond, List, [], ◌∷◌, ◌++◌, Some, refl, sym, ap, subst, ◌∙◌, arith}
 use Rattle.std.specs.Prelude.{◌==◌, nat_le, nat_lt, ℤ, pos, negsuc, ◌-ℤ◌}
 use Rattle.std.specs.Int.Signed.{mag}
 use Rattle.std.specs.Fmt.{decimal as text_of, signed_decimal}
 use Rattle.std.proofs.Math.Nat.{div-add-mod, mod-lt}
 use Rattle.std.proofs.lemmas.Bool.{ltb-false, leb-true, leb-false, le-leb, lt-leb, le-ltb, lt-ltb, ne_eqb}
-use Rattle.std.proofs.lemmas.Fmt.{decimal_by_steps}
+use Rattle.std.proofs.lemmas.Fmt.{decimal_by_steps_wide}
 use Rattle.dactl_model.proofs.Unique.{left_true, right_true}
 use Rattle.dactl_tokens.specs.declared.token.TokenKind.TheVariants.{Integer}
-use Rattle.dactl_tokens.specs.Spelling.{is_upper, is_lower, is_digit, all, is_long_sign, kind_of, decimal, is_wide, value_of}
+use Rattle.dactl_tokens.specs.Spelling.{is_upper, is_lower, is_digit, all, is_long_sign, kind_of, decimal, bound, is_too_wide, value_of}
 use Rattle.dactl_syntax.specs.Seen.{value_at}
 
--- ---- values have 64 bits
+-- ---- values are within the bounds of their language
 
 -- the number after 0 - n
 pub minus_is : (n : ℕ) → pos 0 -ℤ pos (suc n) ≡ negsuc n
@@ -19,26 +19,36 @@ minus_is n =
     let less : suc n - suc 0 ≡ n = omega arith in
     ap (λ (b : Bool). cond b (negsuc (suc n - suc 0)) (pos (0 - suc n))) (lt-ltb 0 (suc n) (omega arith)) ∙ ap negsuc less
 
-negative_within : (n : ℕ) → n ≤ 2 ^ 63 → mag (pos 0 -ℤ pos n) < 2 ^ 63
-negative_within zero h = omega arith
-negative_within (suc n) h = let e = ap mag (minus_is n) in omega arith
+some_bound : (wide : Bool) → 0 < bound wide
+some_bound true = omega arith
+some_bound false = omega arith
 
-seen_within : (minus : Bool) (m n : ℕ) → mag (cond (cond minus (nat_lt (2 ^ 63) m) (nat_le (2 ^ 63) n)) (pos 0) (cond minus (pos 0 -ℤ pos m) (pos n))) < 2 ^ 63
-seen_within true m n = at (nat_lt (2 ^ 63) m) refl
-  where
-    at : (b : Bool) → nat_lt (2 ^ 63) m ≡ b → mag (cond b (pos 0) (pos 0 -ℤ pos m)) < 2 ^ 63
-    at true e = omega arith
-    at false e = negative_within m (ltb-false (2 ^ 63) m e)
-seen_within false m n = at (nat_le (2 ^ 63) n) refl
-  where
-    at : (b : Bool) → nat_le (2 ^ 63) n ≡ b → mag (cond b (pos 0) (pos n)) < 2 ^ 63
-    at true e = omega arith
-    at false e = leb-false (2 ^ 63) n e
+most_bound : (wide : Bool) → bound wide ≤ 2 ^ 127
+most_bound true = omega arith
+most_bound false = omega arith
 
-pub value_within : (w : List ℕ) → mag (value_at w) < 2 ^ 63
-unfolding is_wide
-value_within [] = omega arith
-value_within (b ∷ w) = seen_within (b == 45) (decimal 0 w) (decimal 0 (b ∷ w))
+negative_within : (most n : ℕ) → 0 < most → n ≤ most → mag (pos 0 -ℤ pos n) < most
+negative_within most zero some h = some
+negative_within most (suc n) some h = let e = ap mag (minus_is n) in omega arith
+
+-- a number that is not past the bound is not past a greater one, and is its own value
+seen_within : (minus : Bool) (most m n : ℕ) → 0 < most → cond minus (nat_lt most m) (nat_le most n) ≡ false
+    → mag (cond (cond minus (nat_lt (2 ^ 127) m) (nat_le (2 ^ 127) n)) (pos 0) (cond minus (pos 0 -ℤ pos m) (pos n))) < most
+seen_within true most m n some h = at (nat_lt (2 ^ 127) m)
+  where
+    at : (b : Bool) → mag (cond b (pos 0) (pos 0 -ℤ pos m)) < most
+    at true = some
+    at false = negative_within most m some (ltb-false most m h)
+seen_within false most m n some h = at (nat_le (2 ^ 127) n)
+  where
+    at : (b : Bool) → mag (cond b (pos 0) (pos n)) < most
+    at true = some
+    at false = leb-false most n h
+
+pub value_within : (wide : Bool) (w : List ℕ) → is_too_wide wide w ≡ false → mag (value_at w) < bound wide
+unfolding is_too_wide
+value_within wide [] h = some_bound wide
+value_within wide (b ∷ w) h = seen_within (b == 45) (bound wide) (decimal 0 w) (decimal 0 (b ∷ w)) (some_bound wide) h
 
 -- ---- digits
 
@@ -77,16 +87,16 @@ more_digits n ds h d =
       value = omega (arith, decimal_push 0 ds (48 + n % 10), div-add-mod n 10);
     }
 
-text_digits : (n : ℕ) → n < 2 ^ 64 → AreDigits n (text_of n)
-text_digits n h = decimal_by_steps AreDigits one_digit more_digits n h
+text_digits : (n : ℕ) → n < 10 ^ 64 → AreDigits n (text_of n)
+text_digits n h = decimal_by_steps_wide AreDigits one_digit more_digits n h
 
 -- ---- a token
 
--- the bytes are an integer token of this value
-pub record SpellsInteger (z : ℤ) (w : List ℕ) : Type 0 where
-  pub kind : kind_of w ≡ Some Integer
-  pub fits : is_wide w ≡ false
-  pub value : value_of w ≡ z
+-- the bytes are an integer token of a language, and of this value
+pub record SpellsInteger (wide : Bool) (z : ℤ) (w : List ℕ) : Type 0 where
+  pub kind : kind_of wide w ≡ Some Integer
+  pub fits : is_too_wide wide w ≡ false
+  pub value : value_at w ≡ z
 
 digit_low : (b : ℕ) → is_digit b ≡ true → 48 ≤ b
 digit_low b h = leb-true 48 b (left_true (nat_le 48 b) (nat_le b 57) h)
@@ -103,41 +113,48 @@ digit_not_lower b h = let high = digit_high b h in rw (lt-leb 97 b (omega arith)
 digit_not_minus : (b : ℕ) → is_digit b ≡ true → (b == 45) ≡ false
 digit_not_minus b h = let low = digit_low b h in ne_eqb b 45 (λ e. omega arith)
 
-positive_kind : (b : ℕ) (ds : List ℕ) → is_digit b ≡ true → all is_digit ds ≡ true → kind_of (b ∷ ds) ≡ Some Integer
+positive_kind : (wide : Bool) (b : ℕ) (ds : List ℕ) → is_digit b ≡ true → all is_digit ds ≡ true → kind_of wide (b ∷ ds) ≡ Some Integer
 unfolding kind_of
-positive_kind b ds h k = rw (digit_not_upper b h, digit_not_lower b h, h, k) refl
+positive_kind wide b ds h k = rw (digit_not_upper b h, digit_not_lower b h, h, k) refl
 
-negative_kind : (b : ℕ) (ds : List ℕ) → is_digit b ≡ true → all is_digit ds ≡ true → kind_of (45 ∷ (b ∷ ds)) ≡ Some Integer
+negative_kind : (wide : Bool) (b : ℕ) (ds : List ℕ) → is_digit b ≡ true → all is_digit ds ≡ true → kind_of wide (45 ∷ (b ∷ ds)) ≡ Some Integer
 unfolding kind_of is_long_sign
-negative_kind b [] h k = let high = digit_high b h in rw (ne_eqb b 62 (λ e. omega arith), h) refl
-negative_kind b (d ∷ ds) h k = rw (h, left_true (is_digit d) (all is_digit ds) k, right_true (is_digit d) (all is_digit ds) k) refl
+negative_kind wide b [] h k = let high = digit_high b h in rw (ne_eqb b 62 (λ e. omega arith), h) refl
+negative_kind wide b (d ∷ ds) h k = rw (h, left_true (is_digit d) (all is_digit ds) k, right_true (is_digit d) (all is_digit ds) k) refl
 
-positive_spelled : (n b : ℕ) (ds : List ℕ) → n < 2 ^ 63 → all is_digit (b ∷ ds) ≡ true → decimal 0 (b ∷ ds) ≡ n → SpellsInteger (pos n) (b ∷ ds)
-unfolding is_wide
-positive_spelled n b ds h k e =
+-- bytes that fit both a language and 128 bits have their value
+spelled_by : (wide : Bool) (z : ℤ) (w : List ℕ) → kind_of wide w ≡ Some Integer → is_too_wide wide w ≡ false → is_too_wide true w ≡ false → value_of w ≡ z → SpellsInteger wide z w
+spelled_by wide z w kind fits fits_most value = record { kind = kind; fits = fits; value = ap (λ (b : Bool). cond b (pos 0) (value_of w)) fits_most ∙ value }
+
+positive_fits : (wide : Bool) (n b : ℕ) (ds : List ℕ) → n < bound wide → (b == 45) ≡ false → decimal 0 (b ∷ ds) ≡ n → is_too_wide wide (b ∷ ds) ≡ false
+unfolding is_too_wide
+positive_fits wide n b ds h not_minus e = ap (λ (m : Bool). cond m (nat_lt (bound wide) (decimal 0 ds)) (nat_le (bound wide) (decimal 0 (b ∷ ds)))) not_minus ∙ lt-leb (bound wide) (decimal 0 (b ∷ ds)) (omega (arith, e))
+
+positive_spelled : (wide : Bool) (n b : ℕ) (ds : List ℕ) → n < bound wide → all is_digit (b ∷ ds) ≡ true → decimal 0 (b ∷ ds) ≡ n → SpellsInteger wide (pos n) (b ∷ ds)
+positive_spelled wide n b ds h k e =
     let digit : is_digit b ≡ true = left_true (is_digit b) (all is_digit ds) k in
     let not_minus = digit_not_minus b digit in
-    record {
-      kind = positive_kind b ds digit (right_true (is_digit b) (all is_digit ds) k);
-      fits = ap (λ (m : Bool). cond m (nat_lt (2 ^ 63) (decimal 0 ds)) (nat_le (2 ^ 63) (decimal 0 (b ∷ ds)))) not_minus ∙ lt-leb (2 ^ 63) (decimal 0 (b ∷ ds)) (omega (arith, e));
-      value = ap (λ (m : Bool). cond m (pos 0 -ℤ pos (decimal 0 ds)) (pos (decimal 0 (b ∷ ds)))) not_minus ∙ ap pos e;
-    }
+    let most : bound wide ≤ 2 ^ 127 = most_bound wide in
+    spelled_by wide (pos n) (b ∷ ds) (positive_kind wide b ds digit (right_true (is_digit b) (all is_digit ds) k)) (positive_fits wide n b ds h not_minus e) (positive_fits true n b ds (omega arith) not_minus e)
+    (ap (λ (m : Bool). cond m (pos 0 -ℤ pos (decimal 0 ds)) (pos (decimal 0 (b ∷ ds)))) not_minus ∙ ap pos e)
 
-negative_spelled : (n b : ℕ) (ds : List ℕ) → n < 2 ^ 63 → all is_digit (b ∷ ds) ≡ true → decimal 0 (b ∷ ds) ≡ suc n → SpellsInteger (negsuc n) (45 ∷ (b ∷ ds))
-unfolding is_wide
-negative_spelled n b ds h k e = record {
-  kind = negative_kind b ds (left_true (is_digit b) (all is_digit ds) k) (right_true (is_digit b) (all is_digit ds) k);
-  fits = le-ltb (2 ^ 63) (decimal 0 (b ∷ ds)) (omega (arith, e));
-  value = ap (λ (m : ℕ). pos 0 -ℤ pos m) e ∙ minus_is n;
-}
+negative_fits : (wide : Bool) (n : ℕ) (ds : List ℕ) → n < bound wide → decimal 0 ds ≡ suc n → is_too_wide wide (45 ∷ ds) ≡ false
+unfolding is_too_wide
+negative_fits wide n ds h e = le-ltb (bound wide) (decimal 0 ds) (omega (arith, e))
 
-positive_at : (n : ℕ) (ds : List ℕ) → n < 2 ^ 63 → AreDigits n ds → SpellsInteger (pos n) ds
-positive_at n ds h d = subst (SpellsInteger (pos n)) (sym d.parts) (positive_spelled n d.first d.more h (subst (λ (z : List ℕ). all is_digit z ≡ true) d.parts d.digits) (subst (λ (z : List ℕ). decimal 0 z ≡ n) d.parts d.value))
+negative_spelled : (wide : Bool) (n b : ℕ) (ds : List ℕ) → n < bound wide → all is_digit (b ∷ ds) ≡ true → decimal 0 (b ∷ ds) ≡ suc n → SpellsInteger wide (negsuc n) (45 ∷ (b ∷ ds))
+negative_spelled wide n b ds h k e =
+    let most : bound wide ≤ 2 ^ 127 = most_bound wide in
+    spelled_by wide (negsuc n) (45 ∷ (b ∷ ds)) (negative_kind wide b ds (left_true (is_digit b) (all is_digit ds) k) (right_true (is_digit b) (all is_digit ds) k)) (negative_fits wide n (b ∷ ds) h e) (negative_fits true n (b ∷ ds) (omega arith) e)
+    (ap (λ (m : ℕ). pos 0 -ℤ pos m) e ∙ minus_is n)
 
-negative_at : (n : ℕ) (ds : List ℕ) → n < 2 ^ 63 → AreDigits (suc n) ds → SpellsInteger (negsuc n) (45 ∷ ds)
-negative_at n ds h d = subst (λ (z : List ℕ). SpellsInteger (negsuc n) (45 ∷ z)) (sym d.parts) (negative_spelled n d.first d.more h (subst (λ (z : List ℕ). all is_digit z ≡ true) d.parts d.digits) (subst (λ (z : List ℕ). decimal 0 z ≡ suc n) d.parts d.value))
+positive_at : (wide : Bool) (n : ℕ) (ds : List ℕ) → n < bound wide → AreDigits n ds → SpellsInteger wide (pos n) ds
+positive_at wide n ds h d = subst (SpellsInteger wide (pos n)) (sym d.parts) (positive_spelled wide n d.first d.more h (subst (λ (z : List ℕ). all is_digit z ≡ true) d.parts d.digits) (subst (λ (z : List ℕ). decimal 0 z ≡ n) d.parts d.value))
 
--- the text of an integer of 64 bits spells it
-pub decimal_spelled : (z : ℤ) → mag z < 2 ^ 63 → SpellsInteger z (signed_decimal z)
-decimal_spelled (pos n) h = positive_at n (text_of n) h (text_digits n (omega arith))
-decimal_spelled (negsuc n) h = negative_at n (text_of (suc n)) h (text_digits (suc n) (omega arith))
+negative_at : (wide : Bool) (n : ℕ) (ds : List ℕ) → n < bound wide → AreDigits (suc n) ds → SpellsInteger wide (negsuc n) (45 ∷ ds)
+negative_at wide n ds h d = subst (λ (z : List ℕ). SpellsInteger wide (negsuc n) (45 ∷ z)) (sym d.parts) (negative_spelled wide n d.first d.more h (subst (λ (z : List ℕ). all is_digit z ≡ true) d.parts d.digits) (subst (λ (z : List ℕ). decimal 0 z ≡ suc n) d.parts d.value))
+
+-- the text of an integer of a language spells it
+pub decimal_spelled : (wide : Bool) (z : ℤ) → mag z < bound wide → SpellsInteger wide z (signed_decimal z)
+decimal_spelled wide (pos n) h = let most = most_bound wide in positive_at wide n (text_of n) h (text_digits n (omega arith))
+decimal_spelled wide (negsuc n) h = let most = most_bound wide in negative_at wide n (text_of (suc n)) h (text_digits (suc n) (omega arith))

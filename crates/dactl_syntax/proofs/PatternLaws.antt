@@ -3,11 +3,11 @@ use Rattle.std.proofs.Common.{◌≡◌, ℕ, zero, suc, Bool, true, false, inl,
 use Rattle.std.specs.Prelude.{◌||◌}
 use Rattle.dactl_syntax.specs.declared.token.Sort.{Sort}
 use Rattle.dactl_syntax.specs.declared.token.Sort.TheVariants as s
-use Rattle.dactl_syntax.specs.declared.tree.PatternTree.{PatternTree}
+use Rattle.dactl_meaning.specs.declared.tree.PatternTree.{PatternTree}
 use Rattle.dactl_syntax.specs.Sort.{same_sort, starts_base, starts_piece, is_sign}
 use Rattle.dactl_grammar.specs.Grammar.{choice, maybe, many, means}
 use Rattle.dactl_grammar.specs.Reader.{read_many}
-use Rattle.dactl_syntax.specs.Productions.{Tok, Part_of, sign, behind, before, pair, listed, upper, lower, any_of, int_of, number_of, pattern_sym_of, base, piece_of, piece, plus_of, minus_of, operator, chain_of, pattern_over, squares, rounds, pattern}
+use Rattle.dactl_syntax.specs.Productions.{Tok, Part_of, sign, behind, before, pair, listed, upper, lower, any_of, int_of, char_of, number_of, character_of, pattern_sym_of, base, piece_of, piece, plus_of, minus_of, operator, chain_of, pattern_over, squares, rounds, pattern}
 use Rattle.dactl_syntax.specs.Reading.{Reads, by, read_behind, read_before, read_listed, read_base, read_piece, operator_at, read_pattern, squares_at, rounds_at, pattern_at}
 use Rattle.dactl_syntax.proofs.Sorts.{every, bars, implies, clears}
 use Rattle.dactl_syntax.proofs.Fits.{none, Solid, Fit, fit_sign, solid_sign, solid_means, solid_row_first, solid_row_second, fit_barred, solid_barred, a_row, a_choice, a_maybe, a_many, a_meaning}
@@ -64,11 +64,17 @@ fit_operator = a_choice is_sign none (a_meaning plus_of (fit_sign s.Plus)) (a_me
 pub solid_operator : Solid operator
 solid_operator = solid_choice_of (means plus_of (sign s.Plus)) (means minus_of (sign s.Minus)) solid_plus solid_minus
 
+abbrev starts_6 : Sort → Bool
+starts_6 t = same_sort s.Upper t || same_sort s.Left t
+
+abbrev starts_5 : Sort → Bool
+starts_5 t = same_sort s.Character t || starts_6 t
+
 abbrev starts_4 : Sort → Bool
-starts_4 t = same_sort s.Upper t || same_sort s.Left t
+starts_4 t = same_sort s.Integer t || starts_5 t
 
 abbrev starts_3 : Sort → Bool
-starts_3 t = same_sort s.Integer t || starts_4 t
+starts_3 t = same_sort s.Char t || starts_4 t
 
 abbrev starts_2 : Sort → Bool
 starts_2 t = same_sort s.Int t || starts_3 t
@@ -81,20 +87,32 @@ module _ (square : Part_of (List PatternTree)) (round : Part_of PatternTree) (re
   solid_sym_part : Solid sym_part
   solid_sym_part = solid_means pattern_sym_of (pair upper (maybe square)) (solid_row_first upper (λ _. maybe square) solid_upper)
 
+  abbrev base_6 : Part_of PatternTree
+  base_6 = choice sym_part round
+
+  abbrev base_5 : Part_of PatternTree
+  base_5 = choice (means character_of (sign s.Character)) base_6
+
   abbrev base_4 : Part_of PatternTree
-  base_4 = choice sym_part round
+  base_4 = choice (means number_of (sign s.Integer)) base_5
 
   abbrev base_3 : Part_of PatternTree
-  base_3 = choice (means number_of (sign s.Integer)) base_4
+  base_3 = choice (means char_of (sign s.Char)) base_4
 
   abbrev base_2 : Part_of PatternTree
   base_2 = choice (means int_of (sign s.Int)) base_3
 
+  solid_6 : Solid base_6
+  solid_6 = solid_choice_of sym_part round solid_sym_part solid_r
+
+  solid_5 : Solid base_5
+  solid_5 = solid_choice_of (means character_of (sign s.Character)) base_6 (solid_means character_of (sign s.Character) (solid_sign s.Character)) solid_6
+
   solid_4 : Solid base_4
-  solid_4 = solid_choice_of sym_part round solid_sym_part solid_r
+  solid_4 = solid_choice_of (means number_of (sign s.Integer)) base_5 (solid_means number_of (sign s.Integer) (solid_sign s.Integer)) solid_5
 
   solid_3 : Solid base_3
-  solid_3 = solid_choice_of (means number_of (sign s.Integer)) base_4 (solid_means number_of (sign s.Integer) (solid_sign s.Integer)) solid_4
+  solid_3 = solid_choice_of (means char_of (sign s.Char)) base_4 (solid_means char_of (sign s.Char) (solid_sign s.Char)) solid_4
 
   solid_2 : Solid base_2
   solid_2 = solid_choice_of (means int_of (sign s.Int)) base_3 (solid_means int_of (sign s.Int) (solid_sign s.Int)) solid_3
@@ -108,9 +126,13 @@ module _ (square : Part_of (List PatternTree)) (round : Part_of PatternTree) (re
       let sym = a_meaning pattern_sym_of (a_row (same_sort s.Upper) (same_sort s.Open) fit_upper (λ _. a_maybe (same_sort s.Open) fit_s solid_s refl refl) refl refl (inr refl) refl (inl solid_upper)) in
       a_choice starts_base (same_sort s.Open) (a_meaning any_of (fit_sign s.Any))
       (a_choice starts_2 (same_sort s.Open) (a_meaning int_of (fit_sign s.Int))
-      (a_choice starts_3 (same_sort s.Open) (a_meaning number_of (fit_sign s.Integer))
-      (a_choice starts_4 (same_sort s.Open) sym fit_r solid_sym_part solid_r refl refl refl refl refl)
-      (solid_means number_of (sign s.Integer) (solid_sign s.Integer)) solid_4 refl refl refl refl refl)
+      (a_choice starts_3 (same_sort s.Open) (a_meaning char_of (fit_sign s.Char))
+      (a_choice starts_4 (same_sort s.Open) (a_meaning number_of (fit_sign s.Integer))
+      (a_choice starts_5 (same_sort s.Open) (a_meaning character_of (fit_sign s.Character))
+      (a_choice starts_6 (same_sort s.Open) sym fit_r solid_sym_part solid_r refl refl refl refl refl)
+      (solid_means character_of (sign s.Character) (solid_sign s.Character)) solid_6 refl refl refl refl refl)
+      (solid_means number_of (sign s.Integer) (solid_sign s.Integer)) solid_5 refl refl refl refl refl)
+      (solid_means char_of (sign s.Char) (solid_sign s.Char)) solid_4 refl refl refl refl refl)
       (solid_means int_of (sign s.Int) (solid_sign s.Int)) solid_3 refl refl refl refl refl)
       (solid_means any_of (sign s.Any) (solid_sign s.Any)) solid_2 refl refl refl refl refl
 

@@ -4,7 +4,7 @@ use Rattle.std.specs.Prelude.{◌||◌, ◌&&◌}
 use Rattle.dactl_grammar.specs.declared.fault.Fault.TheVariants.{Unexpected}
 use Rattle.dactl_syntax.specs.declared.token.Sort.{Sort}
 use Rattle.dactl_syntax.specs.declared.token.Sort.TheVariants as s
-use Rattle.dactl_syntax.specs.declared.tree.Part.{Part}
+use Rattle.dactl_meaning.specs.declared.tree.Part.{Part}
 use Rattle.dactl_syntax.specs.Sort.{same_sort, starts_mark, starts_term, starts_piece}
 use Rattle.dactl_grammar.specs.Grammar.{choice, means, placed}
 use Rattle.dactl_grammar.specs.Reader.{left, read_as}

@@ -1,19 +1,20 @@
 -- Each sign, keyword and name is written as the token that it is.
-use Rattle.std.proofs.Common.{◌≡◌, ℕ, Bool, true, cond, inl, inr, List, Some, refl, ap, ◌∙◌}
-use Rattle.std.specs.Prelude.{codes, ℤ, pos}
+use Rattle.std.proofs.Common.{◌≡◌, ℕ, Bool, true, inl, inr, List, Some, refl, sym, ap, subst}
+use Rattle.std.specs.Prelude.{codes, ℤ}
 use Rattle.std.specs.Int.Signed.{mag}
-use Rattle.std.specs.Prelude.{◌<◌, ◌^◌}
+use Rattle.std.specs.Prelude.{◌<◌}
 use Rattle.std.specs.Fmt.{signed_decimal}
 use Rattle.dactl_tokens.specs.declared.token.TokenKind.TheVariants as kinds
-use Rattle.dactl_tokens.specs.Spelling.{kind_of, value_of, is_keyword, is_sign_byte, is_long_sign}
+use Rattle.dactl_tokens.specs.Spelling.{kind_of, bound, is_keyword, is_sign_byte, is_long_sign}
 use Rattle.dactl_syntax.specs.declared.token.Sort.{Sort}
 use Rattle.dactl_syntax.specs.declared.token.Sort.TheVariants as s
-use Rattle.dactl_syntax.specs.declared.tree.Name.{Name}
+use Rattle.dactl_meaning.specs.declared.tree.Name.{Name}
 use Rattle.dactl_syntax.specs.Sort.{same_sort}
-use Rattle.dactl_syntax.specs.Productions.{is, sign, name_of, upper, lower}
+use Rattle.dactl_syntax.specs.Productions.{is, sign, name_of, upper, lower, letter}
 use Rattle.dactl_syntax.specs.Seen.{sort_of, keyword_sort, sign_sort}
-use Rattle.dactl_syntax.specs.Canonical.{word, line_end}
-use Rattle.dactl_syntax.specs.Unplaced.{bare_name}
+use Rattle.dactl_syntax.specs.Canonical.{word, line_end, character}
+use Rattle.dactl_meaning.specs.Unplaced.{bare_name}
+use Rattle.dactl_syntax.proofs.TokenFacts.{character_bytes, character_is}
 use Rattle.dactl_syntax.proofs.Holding.{Anything}
 use Rattle.dactl_syntax.proofs.Numbers.{decimal_spelled}
 use Rattle.dactl_syntax.proofs.Back.{Back, SameBy, back_one, back_means}
@@ -26,142 +27,155 @@ no_integer_sign e = cc
 pub no_integer_keyword : kinds.Keyword ≡ kinds.Integer → ⊥
 no_integer_keyword e = cc
 
--- a sign before a space
-sign_word : (k : Sort) (bytes : List ℕ) → kind_of bytes ≡ Some kinds.Sign → same_sort k (sort_of kinds.Sign bytes) ≡ true → Back (sign k) (word bytes) Anything
-sign_word k bytes e h = back_one (is k) (record { kind = kinds.Sign; bytes = bytes; blank = 32 }) Anything (record { kind = e; fits = λ i. absurd (no_integer_sign i); space = inl refl }) (λ place. h) (λ place. tt)
-
-keyword_word : (k : Sort) (bytes : List ℕ) → kind_of bytes ≡ Some kinds.Keyword → same_sort k (sort_of kinds.Keyword bytes) ≡ true → Back (sign k) (word bytes) Anything
-keyword_word k bytes e h = back_one (is k) (record { kind = kinds.Keyword; bytes = bytes; blank = 32 }) Anything (record { kind = e; fits = λ i. absurd (no_integer_keyword i); space = inl refl }) (λ place. h) (λ place. tt)
-
-pub semicolon_back : Back (sign s.Semicolon) line_end Anything
-unfolding kind_of is_sign_byte is_long_sign sort_of sign_sort same_sort
-semicolon_back = back_one (is s.Semicolon) (record { kind = kinds.Sign; bytes = codes ";"; blank = 10 }) Anything (record { kind = refl; fits = λ i. absurd (no_integer_sign i); space = inr refl }) (λ place. refl) (λ place. tt)
-
-pub open_back : Back (sign s.Open) (word (codes "[")) Anything
-unfolding kind_of is_sign_byte is_long_sign sort_of sign_sort same_sort
-open_back = sign_word s.Open (codes "[") refl refl
-
-pub close_back : Back (sign s.Close) (word (codes "]")) Anything
-unfolding kind_of is_sign_byte is_long_sign sort_of sign_sort same_sort
-close_back = sign_word s.Close (codes "]") refl refl
-
-pub left_back : Back (sign s.Left) (word (codes "(")) Anything
-unfolding kind_of is_sign_byte is_long_sign sort_of sign_sort same_sort
-left_back = sign_word s.Left (codes "(") refl refl
-
-pub right_back : Back (sign s.Right) (word (codes ")")) Anything
-unfolding kind_of is_sign_byte is_long_sign sort_of sign_sort same_sort
-right_back = sign_word s.Right (codes ")") refl refl
-
-pub comma_back : Back (sign s.Comma) (word (codes ",")) Anything
-unfolding kind_of is_sign_byte is_long_sign sort_of sign_sort same_sort
-comma_back = sign_word s.Comma (codes ",") refl refl
-
-pub bar_back : Back (sign s.Bar) (word (codes "|")) Anything
-unfolding kind_of is_sign_byte is_long_sign sort_of sign_sort same_sort
-bar_back = sign_word s.Bar (codes "|") refl refl
-
-pub colon_back : Back (sign s.Colon) (word (codes ":")) Anything
-unfolding kind_of is_sign_byte is_long_sign sort_of sign_sort same_sort
-colon_back = sign_word s.Colon (codes ":") refl refl
-
-pub becomes_back : Back (sign s.Becomes) (word (codes ":=")) Anything
-unfolding kind_of is_sign_byte is_long_sign sort_of sign_sort same_sort
-becomes_back = sign_word s.Becomes (codes ":=") refl refl
-
-pub equals_back : Back (sign s.Equals) (word (codes "=")) Anything
-unfolding kind_of is_sign_byte is_long_sign sort_of sign_sort same_sort
-equals_back = sign_word s.Equals (codes "=") refl refl
-
-pub rewrites_back : Back (sign s.Rewrites) (word (codes "=>")) Anything
-unfolding kind_of is_sign_byte is_long_sign sort_of sign_sort same_sort
-rewrites_back = sign_word s.Rewrites (codes "=>") refl refl
-
-pub arrow_back : Back (sign s.Arrow) (word (codes "->")) Anything
-unfolding kind_of is_sign_byte is_long_sign sort_of sign_sort same_sort
-arrow_back = sign_word s.Arrow (codes "->") refl refl
-
-pub star_back : Back (sign s.Star) (word (codes "*")) Anything
-unfolding kind_of is_sign_byte is_long_sign sort_of sign_sort same_sort
-star_back = sign_word s.Star (codes "*") refl refl
-
-pub hash_back : Back (sign s.Hash) (word (codes "#")) Anything
-unfolding kind_of is_sign_byte is_long_sign sort_of sign_sort same_sort
-hash_back = sign_word s.Hash (codes "#") refl refl
-
-pub wait_back : Back (sign s.Wait) (word (codes "^")) Anything
-unfolding kind_of is_sign_byte is_long_sign sort_of sign_sort same_sort
-wait_back = sign_word s.Wait (codes "^") refl refl
-
-pub plus_back : Back (sign s.Plus) (word (codes "+")) Anything
-unfolding kind_of is_sign_byte is_long_sign sort_of sign_sort same_sort
-plus_back = sign_word s.Plus (codes "+") refl refl
-
-pub minus_back : Back (sign s.Minus) (word (codes "-")) Anything
-unfolding kind_of is_sign_byte is_long_sign sort_of sign_sort same_sort
-minus_back = sign_word s.Minus (codes "-") refl refl
-
-pub module_back : Back (sign s.Module) (word (codes "MODULE")) Anything
-unfolding kind_of is_keyword sort_of keyword_sort same_sort
-module_back = keyword_word s.Module (codes "MODULE") refl refl
-
-pub end_module_back : Back (sign s.EndModule) (word (codes "ENDMODULE")) Anything
-unfolding kind_of is_keyword sort_of keyword_sort same_sort
-end_module_back = keyword_word s.EndModule (codes "ENDMODULE") refl refl
-
-pub imports_back : Back (sign s.Imports) (word (codes "IMPORTS")) Anything
-unfolding kind_of is_keyword sort_of keyword_sort same_sort
-imports_back = keyword_word s.Imports (codes "IMPORTS") refl refl
-
-pub symbol_back : Back (sign s.Symbol) (word (codes "SYMBOL")) Anything
-unfolding kind_of is_keyword sort_of keyword_sort same_sort
-symbol_back = keyword_word s.Symbol (codes "SYMBOL") refl refl
-
-pub pattern_back : Back (sign s.Pattern) (word (codes "PATTERN")) Anything
-unfolding kind_of is_keyword sort_of keyword_sort same_sort
-pattern_back = keyword_word s.Pattern (codes "PATTERN") refl refl
-
-pub rule_back : Back (sign s.Rule) (word (codes "RULE")) Anything
-unfolding kind_of is_keyword sort_of keyword_sort same_sort
-rule_back = keyword_word s.Rule (codes "RULE") refl refl
-
-pub initial_back : Back (sign s.Initial) (word (codes "INITIAL")) Anything
-unfolding kind_of is_keyword sort_of keyword_sort same_sort
-initial_back = keyword_word s.Initial (codes "INITIAL") refl refl
-
-pub public_back : Back (sign s.Public) (word (codes "PUBLIC")) Anything
-unfolding kind_of is_keyword sort_of keyword_sort same_sort
-public_back = keyword_word s.Public (codes "PUBLIC") refl refl
-
-pub any_back : Back (sign s.Any) (word (codes "ANY")) Anything
-unfolding kind_of is_keyword sort_of keyword_sort same_sort
-any_back = keyword_word s.Any (codes "ANY") refl refl
-
-pub int_back : Back (sign s.Int) (word (codes "INT")) Anything
-unfolding kind_of is_keyword sort_of keyword_sort same_sort
-int_back = keyword_word s.Int (codes "INT") refl refl
-
--- ---- names and integers
-
 pub no_integer_upper : kinds.Upper ≡ kinds.Integer → ⊥
 no_integer_upper e = cc
 
 no_integer_lower : kinds.Lower ≡ kinds.Integer → ⊥
 no_integer_lower e = cc
 
-pub upper_back : (name : Name) → kind_of name.text ≡ Some kinds.Upper → Back upper (word name.text) (SameBy bare_name name)
-unfolding sort_of same_sort
-upper_back name e = back_means name_of (SameBy bare_name name) (λ t h. ap (λ (w : List ℕ). record { text = w; place = record { byte = 0 } }) h)
-    (back_one (is s.Upper) (record { kind = kinds.Upper; bytes = name.text; blank = 32 }) (λ t. t.word ≡ name.text) (record { kind = e; fits = λ i. absurd (no_integer_upper i); space = inl refl }) (λ place. refl) (λ place. refl))
+no_integer_character : kinds.Character ≡ kinds.Integer → ⊥
+no_integer_character e = cc
 
-pub lower_back : (name : Name) → kind_of name.text ≡ Some kinds.Lower → Back lower (word name.text) (SameBy bare_name name)
-unfolding sort_of same_sort
-lower_back name e = back_means name_of (SameBy bare_name name) (λ t h. ap (λ (w : List ℕ). record { text = w; place = record { byte = 0 } }) h)
-    (back_one (is s.Lower) (record { kind = kinds.Lower; bytes = name.text; blank = 32 }) (λ t. t.word ≡ name.text) (record { kind = e; fits = λ i. absurd (no_integer_lower i); space = inl refl }) (λ place. refl) (λ place. refl))
+module _ (wide : Bool) where
+  -- a sign before a space
+  sign_word : (k : Sort) (bytes : List ℕ) → kind_of wide bytes ≡ Some kinds.Sign → same_sort k (sort_of kinds.Sign bytes) ≡ true → Back wide (sign k) (word bytes) Anything
+  sign_word k bytes e h = back_one (is k) (record { kind = kinds.Sign; bytes = bytes; blank = 32 }) Anything (record { kind = e; fits = λ i. absurd (no_integer_sign i); space = inl refl }) (λ place. h) (λ place. tt)
 
-pub integer_back : (value : ℤ) → mag value < 2 ^ 63 → Back (sign s.Integer) (word (signed_decimal value)) (λ t. t.value ≡ value)
-unfolding sort_of same_sort
-integer_back value h =
-    let spelled = decimal_spelled value h in
-    back_one (is s.Integer) (record { kind = kinds.Integer; bytes = signed_decimal value; blank = 32 }) (λ t. t.value ≡ value) (record { kind = spelled.kind; fits = λ i. spelled.fits; space = inl refl }) (λ place. refl)
-    (λ place. ap (λ (wide : Bool). cond wide (pos 0) (value_of (signed_decimal value))) spelled.fits ∙ spelled.value)
+  keyword_word : (k : Sort) (bytes : List ℕ) → kind_of wide bytes ≡ Some kinds.Keyword → same_sort k (sort_of kinds.Keyword bytes) ≡ true → Back wide (sign k) (word bytes) Anything
+  keyword_word k bytes e h = back_one (is k) (record { kind = kinds.Keyword; bytes = bytes; blank = 32 }) Anything (record { kind = e; fits = λ i. absurd (no_integer_keyword i); space = inl refl }) (λ place. h) (λ place. tt)
+
+  pub semicolon_back : Back wide (sign s.Semicolon) line_end Anything
+  unfolding kind_of is_sign_byte is_long_sign sort_of sign_sort same_sort
+  semicolon_back = back_one (is s.Semicolon) (record { kind = kinds.Sign; bytes = codes ";"; blank = 10 }) Anything (record { kind = refl; fits = λ i. absurd (no_integer_sign i); space = inr refl }) (λ place. refl) (λ place. tt)
+
+  pub open_back : Back wide (sign s.Open) (word (codes "[")) Anything
+  unfolding kind_of is_sign_byte is_long_sign sort_of sign_sort same_sort
+  open_back = sign_word s.Open (codes "[") refl refl
+
+  pub close_back : Back wide (sign s.Close) (word (codes "]")) Anything
+  unfolding kind_of is_sign_byte is_long_sign sort_of sign_sort same_sort
+  close_back = sign_word s.Close (codes "]") refl refl
+
+  pub left_back : Back wide (sign s.Left) (word (codes "(")) Anything
+  unfolding kind_of is_sign_byte is_long_sign sort_of sign_sort same_sort
+  left_back = sign_word s.Left (codes "(") refl refl
+
+  pub right_back : Back wide (sign s.Right) (word (codes ")")) Anything
+  unfolding kind_of is_sign_byte is_long_sign sort_of sign_sort same_sort
+  right_back = sign_word s.Right (codes ")") refl refl
+
+  pub comma_back : Back wide (sign s.Comma) (word (codes ",")) Anything
+  unfolding kind_of is_sign_byte is_long_sign sort_of sign_sort same_sort
+  comma_back = sign_word s.Comma (codes ",") refl refl
+
+  pub bar_back : Back wide (sign s.Bar) (word (codes "|")) Anything
+  unfolding kind_of is_sign_byte is_long_sign sort_of sign_sort same_sort
+  bar_back = sign_word s.Bar (codes "|") refl refl
+
+  pub colon_back : Back wide (sign s.Colon) (word (codes ":")) Anything
+  unfolding kind_of is_sign_byte is_long_sign sort_of sign_sort same_sort
+  colon_back = sign_word s.Colon (codes ":") refl refl
+
+  pub becomes_back : Back wide (sign s.Becomes) (word (codes ":=")) Anything
+  unfolding kind_of is_sign_byte is_long_sign sort_of sign_sort same_sort
+  becomes_back = sign_word s.Becomes (codes ":=") refl refl
+
+  pub equals_back : Back wide (sign s.Equals) (word (codes "=")) Anything
+  unfolding kind_of is_sign_byte is_long_sign sort_of sign_sort same_sort
+  equals_back = sign_word s.Equals (codes "=") refl refl
+
+  pub rewrites_back : Back wide (sign s.Rewrites) (word (codes "=>")) Anything
+  unfolding kind_of is_sign_byte is_long_sign sort_of sign_sort same_sort
+  rewrites_back = sign_word s.Rewrites (codes "=>") refl refl
+
+  pub arrow_back : Back wide (sign s.Arrow) (word (codes "->")) Anything
+  unfolding kind_of is_sign_byte is_long_sign sort_of sign_sort same_sort
+  arrow_back = sign_word s.Arrow (codes "->") refl refl
+
+  pub star_back : Back wide (sign s.Star) (word (codes "*")) Anything
+  unfolding kind_of is_sign_byte is_long_sign sort_of sign_sort same_sort
+  star_back = sign_word s.Star (codes "*") refl refl
+
+  pub hash_back : Back wide (sign s.Hash) (word (codes "#")) Anything
+  unfolding kind_of is_sign_byte is_long_sign sort_of sign_sort same_sort
+  hash_back = sign_word s.Hash (codes "#") refl refl
+
+  pub wait_back : Back wide (sign s.Wait) (word (codes "^")) Anything
+  unfolding kind_of is_sign_byte is_long_sign sort_of sign_sort same_sort
+  wait_back = sign_word s.Wait (codes "^") refl refl
+
+  pub plus_back : Back wide (sign s.Plus) (word (codes "+")) Anything
+  unfolding kind_of is_sign_byte is_long_sign sort_of sign_sort same_sort
+  plus_back = sign_word s.Plus (codes "+") refl refl
+
+  pub minus_back : Back wide (sign s.Minus) (word (codes "-")) Anything
+  unfolding kind_of is_sign_byte is_long_sign sort_of sign_sort same_sort
+  minus_back = sign_word s.Minus (codes "-") refl refl
+
+  pub module_back : Back wide (sign s.Module) (word (codes "MODULE")) Anything
+  unfolding kind_of is_keyword sort_of keyword_sort same_sort
+  module_back = keyword_word s.Module (codes "MODULE") refl refl
+
+  pub end_module_back : Back wide (sign s.EndModule) (word (codes "ENDMODULE")) Anything
+  unfolding kind_of is_keyword sort_of keyword_sort same_sort
+  end_module_back = keyword_word s.EndModule (codes "ENDMODULE") refl refl
+
+  pub imports_back : Back wide (sign s.Imports) (word (codes "IMPORTS")) Anything
+  unfolding kind_of is_keyword sort_of keyword_sort same_sort
+  imports_back = keyword_word s.Imports (codes "IMPORTS") refl refl
+
+  pub symbol_back : Back wide (sign s.Symbol) (word (codes "SYMBOL")) Anything
+  unfolding kind_of is_keyword sort_of keyword_sort same_sort
+  symbol_back = keyword_word s.Symbol (codes "SYMBOL") refl refl
+
+  pub pattern_back : Back wide (sign s.Pattern) (word (codes "PATTERN")) Anything
+  unfolding kind_of is_keyword sort_of keyword_sort same_sort
+  pattern_back = keyword_word s.Pattern (codes "PATTERN") refl refl
+
+  pub rule_back : Back wide (sign s.Rule) (word (codes "RULE")) Anything
+  unfolding kind_of is_keyword sort_of keyword_sort same_sort
+  rule_back = keyword_word s.Rule (codes "RULE") refl refl
+
+  pub initial_back : Back wide (sign s.Initial) (word (codes "INITIAL")) Anything
+  unfolding kind_of is_keyword sort_of keyword_sort same_sort
+  initial_back = keyword_word s.Initial (codes "INITIAL") refl refl
+
+  pub public_back : Back wide (sign s.Public) (word (codes "PUBLIC")) Anything
+  unfolding kind_of is_keyword sort_of keyword_sort same_sort
+  public_back = keyword_word s.Public (codes "PUBLIC") refl refl
+
+  pub any_back : Back wide (sign s.Any) (word (codes "ANY")) Anything
+  unfolding kind_of is_keyword sort_of keyword_sort same_sort
+  any_back = keyword_word s.Any (codes "ANY") refl refl
+
+  pub int_back : Back wide (sign s.Int) (word (codes "INT")) Anything
+  unfolding kind_of is_keyword sort_of keyword_sort same_sort
+  int_back = keyword_word s.Int (codes "INT") refl refl
+
+  pub char_back : wide ≡ true → Back wide (sign s.Char) (word (codes "CHAR")) Anything
+  unfolding kind_of is_keyword sort_of keyword_sort same_sort
+  char_back e = keyword_word s.Char (codes "CHAR") (subst (λ (x : Bool). kind_of x (codes "CHAR") ≡ Some kinds.Keyword) (sym e) refl) refl
+
+  -- ---- names, integers and characters
+
+  pub upper_back : (name : Name) → kind_of wide name.text ≡ Some kinds.Upper → Back wide upper (word name.text) (SameBy bare_name name)
+  unfolding sort_of same_sort
+  upper_back name e = back_means name_of (SameBy bare_name name) (λ t h. ap (λ (w : List ℕ). record { text = w; place = record { byte = 0 } }) h)
+      (back_one (is s.Upper) (record { kind = kinds.Upper; bytes = name.text; blank = 32 }) (λ t. t.word ≡ name.text) (record { kind = e; fits = λ i. absurd (no_integer_upper i); space = inl refl }) (λ place. refl) (λ place. refl))
+
+  pub lower_back : (name : Name) → kind_of wide name.text ≡ Some kinds.Lower → Back wide lower (word name.text) (SameBy bare_name name)
+  unfolding sort_of same_sort
+  lower_back name e = back_means name_of (SameBy bare_name name) (λ t h. ap (λ (w : List ℕ). record { text = w; place = record { byte = 0 } }) h)
+      (back_one (is s.Lower) (record { kind = kinds.Lower; bytes = name.text; blank = 32 }) (λ t. t.word ≡ name.text) (record { kind = e; fits = λ i. absurd (no_integer_lower i); space = inl refl }) (λ place. refl) (λ place. refl))
+
+  pub integer_back : (value : ℤ) → mag value < bound wide → Back wide (sign s.Integer) (word (signed_decimal value)) (λ t. t.value ≡ value)
+  unfolding sort_of same_sort
+  integer_back value h =
+      let spelled = decimal_spelled wide value h in
+      back_one (is s.Integer) (record { kind = kinds.Integer; bytes = signed_decimal value; blank = 32 }) (λ t. t.value ≡ value) (record { kind = spelled.kind; fits = λ i. spelled.fits; space = inl refl }) (λ place. refl) (λ place. spelled.value)
+
+  pub character_back : (w : List ℕ) → kind_of wide w ≡ Some kinds.Character → Back wide (sign s.Character) (character (letter w)) (λ t. letter t.word ≡ letter w)
+  unfolding sort_of same_sort
+  character_back w e =
+      let kind = subst (λ (v : List ℕ). kind_of wide v ≡ Some kinds.Character) (character_is wide w e).bytes e in
+      back_one (is s.Character) (record { kind = kinds.Character; bytes = character_bytes (letter w); blank = 32 }) (λ t. letter t.word ≡ letter w) (record { kind = kind; fits = λ i. absurd (no_integer_character i); space = inl refl }) (λ place. refl) (λ place. refl)

@@ -2,10 +2,10 @@
 use Rattle.std.proofs.Common.{◌≡◌, ℕ, zero, suc, Bool, true, false, cond, List, [], ◌∷◌, Option, Some, None, refl, subst}
 use Rattle.std.specs.Prelude.{◌&&◌, not}
 use Rattle.dactl_syntax.specs.declared.token.Sort.{Sort}
-use Rattle.dactl_syntax.specs.declared.token.Sort.TheVariants.{Upper, Lower, Integer, Module, EndModule, Imports, Symbol, Pattern, Rule, Initial, Public, Rewritable, Overwritable, Creatable, Any, Int, Open, Close, Left, Right, Semicolon, Comma, Bar, Colon, Becomes, Equals, Rewrites, Arrow, Star, Hash, Wait, Plus, Minus}
+use Rattle.dactl_syntax.specs.declared.token.Sort.TheVariants.{Upper, Lower, Integer, Module, EndModule, Imports, Symbol, Pattern, Rule, Initial, Public, Rewritable, Overwritable, Creatable, Any, Int, Open, Close, Left, Right, Semicolon, Comma, Bar, Colon, Becomes, Equals, Rewrites, Arrow, Star, Hash, Wait, Plus, Minus, Header, Character, Char}
 
 abbrev sorts : List Sort
-sorts = Upper ∷ Lower ∷ Integer ∷ Module ∷ EndModule ∷ Imports ∷ Symbol ∷ Pattern ∷ Rule ∷ Initial ∷ Public ∷ Rewritable ∷ Overwritable ∷ Creatable ∷ Any ∷ Int ∷ Open ∷ Close ∷ Left ∷ Right ∷ Semicolon ∷ Comma ∷ Bar ∷ Colon ∷ Becomes ∷ Equals ∷ Rewrites ∷ Arrow ∷ Star ∷ Hash ∷ Wait ∷ Plus ∷ Minus ∷ []
+sorts = Upper ∷ Lower ∷ Integer ∷ Module ∷ EndModule ∷ Imports ∷ Symbol ∷ Pattern ∷ Rule ∷ Initial ∷ Public ∷ Rewritable ∷ Overwritable ∷ Creatable ∷ Any ∷ Int ∷ Open ∷ Close ∷ Left ∷ Right ∷ Semicolon ∷ Comma ∷ Bar ∷ Colon ∷ Becomes ∷ Equals ∷ Rewrites ∷ Arrow ∷ Star ∷ Hash ∷ Wait ∷ Plus ∷ Minus ∷ Header ∷ Character ∷ Char ∷ []
 
 abbrev all : (Sort → Bool) → List Sort → Bool
 all p [] = true
@@ -69,6 +69,9 @@ each p h Hash = holds_at p sorts 29 Hash refl h
 each p h Wait = holds_at p sorts 30 Wait refl h
 each p h Plus = holds_at p sorts 31 Plus refl h
 each p h Minus = holds_at p sorts 32 Minus refl h
+each p h Header = holds_at p sorts 33 Header refl h
+each p h Character = holds_at p sorts 34 Character refl h
+each p h Char = holds_at p sorts 35 Char refl h
 
 -- the first test rules the second out
 abbrev pub bars : (Sort → Bool) → (Sort → Bool) → Sort → Bool

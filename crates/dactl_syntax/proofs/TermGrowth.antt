@@ -3,11 +3,11 @@ use Rattle.std.proofs.Common.{◌≡◌, ℕ, zero, suc, Bool, true, false, inl,
 use Rattle.std.specs.Prelude.{◌||◌}
 use Rattle.dactl_syntax.specs.declared.token.Sort.{Sort}
 use Rattle.dactl_syntax.specs.declared.token.Sort.TheVariants as s
-use Rattle.dactl_syntax.specs.declared.tree.ArgTree.{ArgTree}
+use Rattle.dactl_meaning.specs.declared.tree.ArgTree.{ArgTree}
 use Rattle.dactl_syntax.specs.Sort.{same_sort, starts_mark, starts_node, starts_arg}
 use Rattle.dactl_grammar.specs.Grammar.{row, choice, maybe, many, barred}
 use Rattle.dactl_grammar.specs.Reader.{head_is, read_row, read_choice, read_maybe, read_many}
-use Rattle.dactl_syntax.specs.Productions.{Tok, Part_of, is, sign, behind, before, upper, lower, name_of, mark, star_of, hashes_of, counted, integer_of, sym_of, node, named_of, bare_of, body, term_of, term, arg_of, arg, args}
+use Rattle.dactl_syntax.specs.Productions.{Tok, Part_of, is, sign, behind, before, upper, lower, name_of, mark, star_of, hashes_of, counted, integer_of, letter_of, sym_of, node, named_of, bare_of, body, term_of, term, arg_of, arg, args}
 use Rattle.dactl_syntax.specs.Reading.{Reads, by, read_sign, read_behind, read_before, upper_at, lower_at, hashes_at, mark_at, read_node, read_body, read_term, read_arg, args_at}
 use Rattle.dactl_syntax.proofs.Fits.{Fit, fit_sign, solid_sign, a_many, a_maybe}
 use Rattle.dactl_syntax.proofs.TermLaws.{fit_upper, fit_lower, fit_mark, solid_mark, fit_node, solid_node, fit_behind, fit_arg, solid_arg, fit_args, solid_args, goes_on_arg}
@@ -60,7 +60,8 @@ g_mark = g_choice (head_is (by (same_sort s.Star))) (grows_means star_of (g_sign
 
 module _ (P P' : Part_of (List ArgTree)) (R R' : Reads (List ArgTree)) (fit : Fit P R (same_sort s.Open) (λ _. false)) (solid : (a : List ArgTree) → P.whole [] a → ⊥) (g : Grown P R P' R') where
   g_node : Grown (node P) (read_node R) (node P') (read_node R')
-  g_node = g_choice (head_is (by (same_sort s.Integer))) (grows_means integer_of (g_sign s.Integer)) (grows_means sym_of (g_row fit_upper g_upper (λ _. g_maybe (same_sort s.Open) fit g)))
+  g_node = g_choice (head_is (by (same_sort s.Integer))) (grows_means integer_of (g_sign s.Integer))
+      (g_choice (head_is (by (same_sort s.Character))) (grows_means letter_of (g_sign s.Character)) (grows_means sym_of (g_row fit_upper g_upper (λ _. g_maybe (same_sort s.Open) fit g))))
 
   g_body : Grown (body P) (read_body R) (body P') (read_body R')
   unfolding same_sort

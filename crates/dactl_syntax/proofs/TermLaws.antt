@@ -3,13 +3,13 @@ use Rattle.std.proofs.Common.{◌≡◌, ℕ, zero, suc, Bool, true, false, inl,
 use Rattle.std.specs.Prelude.{◌||◌}
 use Rattle.dactl_syntax.specs.declared.token.Sort.{Sort}
 use Rattle.dactl_syntax.specs.declared.token.Sort.TheVariants as s
-use Rattle.dactl_syntax.specs.declared.tree.Name.{Name}
-use Rattle.dactl_syntax.specs.declared.tree.NodeTree.{NodeTree}
-use Rattle.dactl_syntax.specs.declared.tree.ArgTree.{ArgTree}
+use Rattle.dactl_meaning.specs.declared.tree.Name.{Name}
+use Rattle.dactl_meaning.specs.declared.tree.NodeTree.{NodeTree}
+use Rattle.dactl_meaning.specs.declared.tree.ArgTree.{ArgTree}
 use Rattle.dactl_syntax.specs.Sort.{same_sort, starts_mark, starts_node, starts_body, starts_term, starts_arg}
 use Rattle.dactl_grammar.specs.Grammar.{choice, maybe, many, means}
 use Rattle.dactl_grammar.specs.Reader.{read_many}
-use Rattle.dactl_syntax.specs.Productions.{Tok, Part_of, sign, behind, before, pair, name_of, upper, lower, star_of, hashes_of, counted, mark, integer_of, sym_of, node, named_of, bare_of, body, term_of, term, arg_of, arg, args}
+use Rattle.dactl_syntax.specs.Productions.{Tok, Part_of, sign, behind, before, pair, name_of, upper, lower, star_of, hashes_of, counted, mark, integer_of, letter_of, sym_of, node, named_of, bare_of, body, term_of, term, arg_of, arg, args}
 use Rattle.dactl_syntax.specs.Reading.{Reads, by, read_sign, read_pair, read_behind, read_before, upper_at, lower_at, hashes_at, mark_at, read_node, read_body, read_term, read_arg, args_at}
 use Rattle.dactl_syntax.proofs.Sorts.{every, bars, implies, clears}
 use Rattle.dactl_syntax.proofs.Fits.{none, Solid, Fit, fit_sign, solid_sign, fit_means, solid_means, fit_row, solid_row_first, solid_row_second, fit_barred, solid_barred, a_row, a_choice, a_maybe, a_many, a_meaning}
@@ -22,6 +22,9 @@ goes_on_term _ = false
 
 abbrev pub goes_on_arg : Sort → Bool
 goes_on_arg t = starts_arg t || goes_on_term t
+
+abbrev starts_letter : Sort → Bool
+starts_letter t = same_sort s.Character t || same_sort s.Upper t
 
 abbrev pub starts_arg_or_close : Sort → Bool
 starts_arg_or_close t = starts_arg t || same_sort s.Close t
@@ -78,18 +81,30 @@ module _ (inner : Part_of (List ArgTree)) (read : Reads (List ArgTree)) (fit : F
   solid_number : Solid (means integer_of (sign s.Integer))
   solid_number = solid_means integer_of (sign s.Integer) (solid_sign s.Integer)
 
+  solid_letter : Solid (means letter_of (sign s.Character))
+  solid_letter = solid_means letter_of (sign s.Character) (solid_sign s.Character)
+
   solid_sym : Solid (means sym_of (pair upper (maybe inner)))
   solid_sym = solid_means sym_of (pair upper (maybe inner)) (solid_row_first upper (λ _. maybe inner) solid_upper)
+
+  -- a character or a symbol
+  abbrev letter_or_sym : Part_of NodeTree
+  letter_or_sym = choice (means letter_of (sign s.Character)) (means sym_of (pair upper (maybe inner)))
+
+  solid_letter_or_sym : Solid letter_or_sym
+  solid_letter_or_sym = solid_choice_of (means letter_of (sign s.Character)) (means sym_of (pair upper (maybe inner))) solid_letter solid_sym
 
   pub fit_node : Fit (node inner) (read_node read) starts_node (same_sort s.Open)
   unfolding same_sort
   fit_node = a_choice starts_node (same_sort s.Open)
       (a_meaning integer_of (fit_sign s.Integer))
+      (a_choice starts_letter (same_sort s.Open) (a_meaning letter_of (fit_sign s.Character))
       (a_meaning sym_of (a_row (same_sort s.Upper) (same_sort s.Open) fit_upper (λ _. a_maybe (same_sort s.Open) fit solid refl refl) refl refl (inr refl) refl (inl solid_upper)))
-      solid_number solid_sym refl refl refl refl refl
+      solid_letter solid_sym refl refl refl refl refl)
+      solid_number solid_letter_or_sym refl refl refl refl refl
 
   pub solid_node : Solid (node inner)
-  solid_node = solid_choice_of (means integer_of (sign s.Integer)) (means sym_of (pair upper (maybe inner))) solid_number solid_sym
+  solid_node = solid_choice_of (means integer_of (sign s.Integer)) letter_or_sym solid_number solid_letter_or_sym
 
   abbrev named : Part_of (Option Name × Option NodeTree)
   named = means named_of (pair lower (maybe (behind s.Colon (node inner))))

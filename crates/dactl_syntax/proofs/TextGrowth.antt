@@ -3,18 +3,18 @@ use Rattle.std.proofs.Common.{◌≡◌, ℕ, zero, suc, Bool, true, false, inl,
 use Rattle.std.specs.Prelude.{◌||◌, is_some}
 use Rattle.dactl_syntax.specs.declared.token.Sort.{Sort}
 use Rattle.dactl_syntax.specs.declared.token.Sort.TheVariants as s
-use Rattle.dactl_syntax.specs.declared.tree.PatternTree.{PatternTree}
+use Rattle.dactl_meaning.specs.declared.tree.PatternTree.{PatternTree}
 use Rattle.dactl_syntax.specs.Sort.{same_sort, starts_piece, is_sign, is_class, starts_item}
 use Rattle.dactl_grammar.specs.Grammar.{many, barred}
 use Rattle.dactl_grammar.specs.Reader.{head_is, read_many}
-use Rattle.dactl_syntax.specs.Productions.{Tok, Part_of, is, behind, before, listed, term, args, any_of, int_of, number_of, pattern_sym_of, base, piece_of, piece, plus_of, minus_of, operator, chain_of, pattern_over, squares, rounds, pattern, part_term, part_redirect, part, rewrites_of, redirects_of, rewriting, redirecting, rule_of, rule, group_of, group, names, imports_of, imports, class_at, class, symbols_of, symbols, pattern_named_of, named, rules_of, rules, initial_of, initial, an_item, is_name, module_of, a_module, text}
-use Rattle.dactl_syntax.specs.Reading.{Reads, by, read_behind, read_before, read_listed, read_base, read_piece, operator_at, read_pattern, squares_at, rounds_at, pattern_at, args_at, term_at, redirects, part_at, plain_at, comma_part_at, plain_parts_at, parts_at, rewriting_at, redirecting_at, right_side_at, rule_at, bar_rule_at, rule_list_at, group_at, groups_at, comma_upper_at, names_at, imports_at, class_reads, public_class_at, public_at, symbols_at, named_at, rules_at, comma_term_at, terms_at, initial_at, item_at, items_at, module_at, modules_at}
+use Rattle.dactl_syntax.specs.Productions.{Tok, Part_of, is, behind, before, listed, several, term, args, any_of, int_of, char_of, number_of, character_of, pattern_sym_of, base, piece_of, piece, plus_of, minus_of, operator, chain_of, pattern_over, squares, rounds, pattern, part_term, part_redirect, part, rewrites_of, redirects_of, rewriting, redirecting, rule_of, rule, group_of, group, names, imports_of, imports, class_at, class, symbols_of, symbols, pattern_named_of, named, rules_of, rules, initial_of, initial, an_item, is_name, module_of, a_module, language_of, text}
+use Rattle.dactl_syntax.specs.Reading.{Reads, by, read_behind, read_before, read_listed, read_base, read_piece, operator_at, read_pattern, squares_at, rounds_at, pattern_at, args_at, term_at, redirects, part_at, plain_at, comma_part_at, plain_parts_at, parts_at, rewriting_at, redirecting_at, right_side_at, rule_at, bar_rule_at, rule_list_at, group_at, groups_at, comma_upper_at, names_at, imports_at, class_reads, public_class_at, public_at, symbols_at, named_at, rules_at, comma_term_at, terms_at, initial_at, item_at, items_at, module_at, modules_at, language_at, text_at}
 use Rattle.dactl_syntax.proofs.Fits.{Fit, Solid, none, fit_sign, solid_sign, a_many, a_maybe, a_row, a_meaning}
 use Rattle.dactl_grammar.proofs.Same.{Same, same_parted}
 use Rattle.dactl_syntax.proofs.TermLaws.{fit_upper, solid_upper, fit_lower, fit_args, solid_args, solid_behind}
 use Rattle.dactl_syntax.proofs.PatternLaws.{goes_on_piece, goes_on_pieces, a_behind, a_before, fit_operator, solid_operator, fit_base, solid_base, fit_piece, solid_piece, fit_pattern, fit_squares, fit_rounds, solid_squares, solid_rounds, fit_pattern_at}
 use Rattle.dactl_syntax.proofs.RuleLaws.{fit_term_at, fit_part, fit_comma_part, fit_rule, fit_bar_rule, fit_rule_list, fit_group, fit_plain}
-use Rattle.dactl_syntax.proofs.ModuleLaws.{fit_comma_upper, fit_names, fit_class, solid_class, fit_comma_term, fit_terms, fit_item, solid_item, fit_module, a_test, name_upper, goes_on_items}
+use Rattle.dactl_syntax.proofs.ModuleLaws.{fit_comma_upper, fit_names, fit_class, solid_class, fit_comma_term, fit_terms, fit_item, solid_item, fit_module, fit_language, a_test, name_upper, goes_on_items}
 use Rattle.dactl_grammar.proofs.Grows.{grows_one, grows_means, grows_placed, grows_barred}
 use Rattle.dactl_syntax.proofs.TermGrowth.{opens, Grown, g_sign, g_row, g_choice, g_maybe, g_many, g_behind, g_before, g_upper, g_lower, g_term, g_args, open_counts}
 
@@ -27,8 +27,10 @@ module _ (P P' : Part_of (List PatternTree)) (Q Q' : Part_of PatternTree) (R R' 
   g_base : Grown (base P Q) (read_base R S) (base P' Q') (read_base R' S')
   g_base = g_choice (head_is (by (same_sort s.Any))) (grows_means any_of (g_sign s.Any))
       (g_choice (head_is (by (same_sort s.Int))) (grows_means int_of (g_sign s.Int))
+      (g_choice (head_is (by (same_sort s.Char))) (grows_means char_of (g_sign s.Char))
       (g_choice (head_is (by (same_sort s.Integer))) (grows_means number_of (g_sign s.Integer))
-      (g_choice (head_is (by (same_sort s.Upper))) (grows_means pattern_sym_of (g_row fit_upper g_upper (λ _. g_maybe (same_sort s.Open) fit_s g))) h)))
+      (g_choice (head_is (by (same_sort s.Character))) (grows_means character_of (g_sign s.Character))
+      (g_choice (head_is (by (same_sort s.Upper))) (grows_means pattern_sym_of (g_row fit_upper g_upper (λ _. g_maybe (same_sort s.Open) fit_s g))) h)))))
 
   g_piece : Grown (piece P Q) (read_piece R S) (piece P' Q') (read_piece R' S')
   unfolding same_sort
@@ -155,6 +157,10 @@ module _ (n : ℕ) where
   g_module = grows_means module_of (g_behind s.Module (g_row (a_before s.Semicolon fit_upper solid_upper refl refl refl) (g_before s.Semicolon fit_upper g_upper)
       (λ name. g_row (a_many goes_on_items (fit_item n) (solid_item n) refl refl refl) (g_many starts_item (fit_item n) g_item) (λ _. g_behind s.EndModule (g_before s.Semicolon (a_test (is_name name) (same_sort s.Upper) (name_upper name)) (grows_one opens (is_name name)))))))
 
-  pub g_text : Grown (text n) (modules_at n) (text (suc n)) (modules_at (suc n))
+  g_modules : Grown (several (a_module n)) (modules_at n) (several (a_module (suc n))) (modules_at (suc n))
   unfolding modules_at
-  g_text = g_list (same_sort s.Module) (fit_module n) g_module (fit_module n) g_module
+  g_modules = g_list (same_sort s.Module) (fit_module n) g_module (fit_module n) g_module
+
+  pub g_text : Grown (text n) (text_at n) (text (suc n)) (text_at (suc n))
+  unfolding text_at language_at same_sort
+  g_text = g_row fit_language (grows_means language_of (g_maybe (same_sort s.Header) (fit_sign s.Header) (g_sign s.Header))) (λ _. g_modules)

@@ -3,8 +3,8 @@ use Rattle.std.proofs.Common.{ℕ, zero, suc, inl, inr, List, [], ◌∷◌, Opt
 use Rattle.dactl_grammar.specs.Grammar.{choice, WholeMaybe, maybe, WholeMany, many, means, barred}
 use Rattle.dactl_syntax.specs.declared.token.Sort.{Sort}
 use Rattle.dactl_syntax.specs.declared.token.Sort.TheVariants as s
-use Rattle.dactl_syntax.specs.declared.tree.PatternTree.{PatternTree}
-use Rattle.dactl_syntax.specs.Productions.{Tok, Part_of, sign, behind, before, pair, upper, lower, any_of, int_of, number_of, pattern_sym_of, base, piece_of, piece, operator, chain_of, pattern_over, squares, rounds, pattern}
+use Rattle.dactl_meaning.specs.declared.tree.PatternTree.{PatternTree}
+use Rattle.dactl_syntax.specs.Productions.{Tok, Part_of, sign, behind, before, pair, upper, lower, any_of, int_of, char_of, number_of, character_of, pattern_sym_of, base, piece_of, piece, operator, chain_of, pattern_over, squares, rounds, pattern}
 
 -- what the first derives, the second does
 pub record Wider {A : Type 0} (P Q : Part_of A) : Type 0 where
@@ -47,8 +47,9 @@ wider_barred P = record { of = λ l a w. absurd w }
 
 module _ {P P' : Part_of (List PatternTree)} {Q Q' : Part_of PatternTree} (p : Wider P P') (q : Wider Q Q') where
   wider_base : Wider (base P Q) (base P' Q')
-  wider_base = wider_choice (wider_same (means any_of (sign s.Any))) (wider_choice (wider_same (means int_of (sign s.Int))) (wider_choice (wider_same (means number_of (sign s.Integer)))
-      (wider_choice (wider_means pattern_sym_of (wider_pair (wider_same upper) (wider_maybe p))) q)))
+  wider_base = wider_choice (wider_same (means any_of (sign s.Any))) (wider_choice (wider_same (means int_of (sign s.Int))) (wider_choice (wider_same (means char_of (sign s.Char)))
+      (wider_choice (wider_same (means number_of (sign s.Integer))) (wider_choice (wider_same (means character_of (sign s.Character)))
+      (wider_choice (wider_means pattern_sym_of (wider_pair (wider_same upper) (wider_maybe p))) q)))))
 
   wider_piece : Wider (piece P Q) (piece P' Q')
   wider_piece = wider_choice (wider_means piece_of (wider_pair (wider_same lower) (wider_maybe (wider_behind s.Colon wider_base)))) wider_base

@@ -1,13 +1,16 @@
 -- Words with a blank behind each are read as the tokens that they are.
-use Rattle.std.proofs.Common.{◌≡◌, ℕ, zero, suc, ◌+◌, ◌<◌, Bool, true, false, cond, ◌⊎◌, inl, inr, List, [], ◌∷◌, ◌++◌, length, take, Option, Some, None, refl, sym, ap, ◌∙◌, append_assoc, arith, length-append}
+use Rattle.std.proofs.Common.{◌≡◌, ℕ, zero, suc, ◌+◌, ◌<◌, ◌≤◌, Bool, true, false, cond, ◌⊎◌, inl, inr, List, [], ◌∷◌, ◌++◌, length, take, Option, Some, None, refl, sym, ap, subst, ◌∙◌, append_assoc, arith, length-append}
 use Rattle.std.specs.Prelude.{◌&&◌, ◌==◌}
 use Rattle.std.specs.List.{AllByRecursion as Each}
+use Rattle.std.proofs.lemmas.Bool.{eqb-true}
+use Rattle.dactl_model.proofs.Unique.{left_true, right_true}
 use Rattle.dactl_tokens.specs.declared.token.Token.{Token}
 use Rattle.dactl_tokens.specs.declared.token.TokenKind.{TokenKind}
 use Rattle.dactl_tokens.specs.declared.token.TokenKind.TheVariants as kinds
-use Rattle.dactl_tokens.specs.Spelling.{is_upper, is_lower, is_digit, is_word, is_blank, all, sign_kind, is_long_sign, kind_of, is_wide}
-use Rattle.dactl_tokens.specs.Lexes.{IsGap, none, blank, IsLongest, Scans, Lexes}
+use Rattle.dactl_tokens.specs.Spelling.{is_upper, is_lower, is_digit, is_word, is_blank, all, sign_kind, is_long_sign, character_kind, kind_of, is_too_wide}
+use Rattle.dactl_tokens.specs.Lexes.{IsGap, none, blank, IsLongest, Scans, ScansText, Lexes, has_header, header}
 use Rattle.dactl_tokens.proofs.OneReading.{kind_nil}
+use Rattle.dactl_syntax.specs.Canonical.{header_text}
 use Rattle.dactl_syntax.specs.Productions.{Tok}
 use Rattle.dactl_syntax.specs.Seen.{between, sort_of, value_at, token_seen, tokens_seen}
 use Rattle.dactl_syntax.proofs.TokenFacts.{between_is}
@@ -22,9 +25,10 @@ pub record Word : Type 0 where
 abbrev pub IsSpace : ℕ → Type 0
 IsSpace b = (b ≡ 32) ⊎ (b ≡ 10)
 
-pub record IsFine (w : Word) : Type 0 where
-  pub kind : kind_of w.bytes ≡ Some w.kind
-  pub fits : w.kind ≡ kinds.Integer → is_wide w.bytes ≡ false
+-- a token of a language, with a space behind it
+pub record IsFine (wide : Bool) (w : Word) : Type 0 where
+  pub kind : kind_of wide w.bytes ≡ Some w.kind
+  pub fits : w.kind ≡ kinds.Integer → is_too_wide wide w.bytes ≡ false
   pub space : IsSpace w.blank
 
 -- the bytes of words
@@ -111,14 +115,48 @@ cond_same : (b : Bool) (x : Option TokenKind) → cond b x x ≡ x
 cond_same true x = refl
 cond_same false x = refl
 
-no_kind : (b : ℕ) (rest : List ℕ) → Fails rest → kind_of (b ∷ rest) ≡ None
+no_kind : (wide : Bool) (b : ℕ) (rest : List ℕ) → ((b == 39) && wide) ≡ false → Fails rest → kind_of wide (b ∷ rest) ≡ None
 unfolding kind_of
-no_kind b rest f = rw (f.word, f.digit, no_sign b rest f, cond_same (is_digit b) None, cond_same (is_lower b) None, cond_same (is_upper b) None) refl
+no_kind wide b rest q f = rw (f.word, f.digit, q, no_sign b rest f, cond_same (is_digit b) None, cond_same (is_lower b) None, cond_same (is_upper b) None) refl
 
-longest : (bytes more : List ℕ) (b : ℕ) (k : TokenKind) → kind_of bytes ≡ Some k → IsSpace b → IsLongest (length bytes) (bytes ++ b ∷ more)
-longest [] more b kind e space k lt le = absurd (kind_nil kind e)
-longest (c ∷ bytes) more b kind e space zero lt le = absurd (omega arith)
-longest (c ∷ bytes) more b kind e space (suc k) lt le = no_kind c (take k (bytes ++ b ∷ more)) (fails bytes more b k space (omega arith))
+-- ---- nor does a character
+
+at_quote : (bs : List ℕ) → kind_of true (39 ∷ bs) ≡ character_kind bs
+unfolding kind_of
+at_quote bs = refl
+
+quote_longest : (bytes more : List ℕ) (k : TokenKind) → character_kind bytes ≡ Some k → IsLongest true (length (39 ∷ bytes)) ((39 ∷ bytes) ++ more)
+quote_longest [] more k e = absurd cc
+quote_longest (c ∷ []) more k e = absurd cc
+quote_longest (c ∷ d ∷ []) more k e = past_three c d more
+  where
+    past_three : (c d : ℕ) (more : List ℕ) (n : ℕ) → 3 < n → n ≤ length (39 ∷ c ∷ d ∷ more) → kind_of true (take n (39 ∷ c ∷ d ∷ more)) ≡ None
+    past_three c d more zero lt le = absurd (omega arith)
+    past_three c d more (suc zero) lt le = absurd (omega arith)
+    past_three c d more (suc (suc zero)) lt le = absurd (omega arith)
+    past_three c d more (suc (suc (suc zero))) lt le = absurd (omega arith)
+    past_three c d [] (suc (suc (suc (suc n)))) lt le = absurd (omega arith)
+    past_three c d (b ∷ more) (suc (suc (suc (suc n)))) lt le = at_quote (c ∷ d ∷ b ∷ take n more)
+quote_longest (c ∷ d ∷ b ∷ bytes) more k e = absurd cc
+
+longest : (wide : Bool) (bytes more : List ℕ) (b : ℕ) (k : TokenKind) → kind_of wide bytes ≡ Some k → IsSpace b → IsLongest wide (length bytes) (bytes ++ b ∷ more)
+longest wide [] more b kind e space = λ k lt le. absurd (kind_nil wide kind e)
+longest wide (c ∷ bytes) more b kind e space = by ((c == 39) && wide) refl
+  where
+    after : (k : ℕ) → length (c ∷ bytes) < k → ((c == 39) && wide) ≡ false → kind_of wide (take k ((c ∷ bytes) ++ b ∷ more)) ≡ None
+    after zero lt q = absurd (omega arith)
+    after (suc k) lt q = no_kind wide c (take k (bytes ++ b ∷ more)) q (fails bytes more b k space (omega arith))
+
+    quote : (d : ℕ) (w : Bool) → d ≡ 39 → w ≡ true → kind_of w (d ∷ bytes) ≡ Some kind → IsLongest w (length (d ∷ bytes)) ((d ∷ bytes) ++ b ∷ more)
+    quote d w f g h =
+        let h' = subst (λ (x : ℕ). kind_of w (x ∷ bytes) ≡ Some kind) f h in
+        let h'' = subst (λ (x : Bool). kind_of x (39 ∷ bytes) ≡ Some kind) g h' in
+        subst (λ (x : ℕ). IsLongest w (length (x ∷ bytes)) ((x ∷ bytes) ++ b ∷ more)) (sym f)
+        (subst (λ (x : Bool). IsLongest x (length (39 ∷ bytes)) ((39 ∷ bytes) ++ b ∷ more)) (sym g) (quote_longest bytes (b ∷ more) kind (sym (at_quote bytes) ∙ h'')))
+
+    by : (q : Bool) → ((c == 39) && wide) ≡ q → IsLongest wide (length (c ∷ bytes)) ((c ∷ bytes) ++ b ∷ more)
+    by true h = quote c wide (eqb-true c 39 (left_true (c == 39) wide h)) (right_true (c == 39) wide h) e
+    by false h = λ k lt le. after k lt h
 
 -- ---- the tokens are read
 
@@ -129,11 +167,11 @@ space_gap b h = blank b [] (is_space b h) none
     is_space b (inl e) = ap is_blank e
     is_space b (inr e) = ap is_blank e
 
-scans_words : (ws : List Word) (place : ℕ) (gap : List ℕ) → IsGap gap → Each IsFine ws → (end : ℕ) × Scans place (gap ++ text_of ws) (tokens_at (place + length gap) ws) end []
-scans_words [] place gap g h = (place + length gap, record { gap = gap; parts = refl; is_gap = g; at = refl })
-scans_words (w ∷ ws) place gap g h =
+scans_words : (wide : Bool) (ws : List Word) (place : ℕ) (gap : List ℕ) → IsGap gap → Each (IsFine wide) ws → (end : ℕ) × Scans wide place (gap ++ text_of ws) (tokens_at (place + length gap) ws) end []
+scans_words wide [] place gap g h = (place + length gap, record { gap = gap; parts = refl; is_gap = g; at = refl })
+scans_words wide (w ∷ ws) place gap g h =
     let start = place + length gap in
-    let later = scans_words ws (start + length w.bytes) (w.blank ∷ []) (space_gap w.blank h.0.space) h.1 in (
+    let later = scans_words wide ws (start + length w.bytes) (w.blank ∷ []) (space_gap w.blank h.0.space) h.1 in (
       later.0,
       record {
         gap = gap;
@@ -141,13 +179,23 @@ scans_words (w ∷ ws) place gap g h =
         more = w.blank ∷ text_of ws;
         parts = ap (λ (z : List ℕ). gap ++ z) (append_assoc w.bytes (w.blank ∷ []) (text_of ws));
         is_gap = g;
-        is_token = record { kind = h.0.kind; longest = longest w.bytes (text_of ws) w.blank w.kind h.0.kind h.0.space; fits = h.0.fits; from = refl; to = refl };
+        is_token = record { kind = h.0.kind; longest = longest wide w.bytes (text_of ws) w.blank w.kind h.0.kind h.0.space; fits = h.0.fits; from = refl; to = refl };
         next = later.1;
       },
     )
 
-pub words_lex : (ws : List Word) → Each IsFine ws → Lexes (text_of ws) (tokens_at 0 ws)
-words_lex ws h = scans_words ws 0 [] none h
+-- words that don't begin as the Header does
+pub words_lex : (ws : List Word) → Each (IsFine false) ws → has_header (text_of ws) ≡ false → Lexes (text_of ws) (tokens_at 0 ws)
+words_lex ws h n =
+    let s = scans_words false ws 0 [] none h in
+    (s.0, subst (λ (x : Bool). ScansText x (text_of ws) (tokens_at 0 ws) s.0 []) (sym n) s.1)
+
+-- words behind the Header and its LF
+pub words_lex_wide : (ws : List Word) → Each (IsFine true) ws → Lexes (header_text true ++ text_of ws) (header ∷ tokens_at 9 ws)
+unfolding has_header
+words_lex_wide ws h =
+    let s = scans_words true ws 8 (10 ∷ []) (space_gap 10 (inr refl)) h in
+    (s.0, (refl, s.1))
 
 pub words_seen : (text pre : List ℕ) (place : ℕ) (ws : List Word) → text ≡ pre ++ text_of ws → place ≡ length pre → tokens_seen text (tokens_at place ws) ≡ toks_at place ws
 words_seen text pre place [] e f = refl

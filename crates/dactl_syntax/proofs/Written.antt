@@ -3,13 +3,13 @@ use Rattle.std.proofs.Common.{◌≡◌, ℕ, zero, suc, ◌+◌, ◌<◌, true,
 use Rattle.std.specs.Prelude.{codes}
 use Rattle.std.specs.List.{concat}
 use Rattle.std.proofs.lemmas.List.{append-nil}
-use Rattle.dactl_syntax.specs.declared.tree.Name.{Name}
-use Rattle.dactl_syntax.specs.declared.tree.Sign.{Sign}
-use Rattle.dactl_syntax.specs.declared.tree.PatternTree.{PatternTree}
-use Rattle.dactl_syntax.specs.declared.tree.PatternTree.TheVariants.{rolls-Binder, rolls-Chain, rolls-Sym}
-use Rattle.dactl_syntax.specs.declared.tree.PatternTree.TheVariants as p
-use Rattle.dactl_syntax.specs.declared.tree.PatternTree.TheOpen.{PatternTree-F}
-use Rattle.dactl_syntax.specs.declared.tree.PatternTree.TheFolds.{fold-roll-PatternTree}
+use Rattle.dactl_meaning.specs.declared.tree.Name.{Name}
+use Rattle.dactl_meaning.specs.declared.tree.Sign.{Sign}
+use Rattle.dactl_meaning.specs.declared.tree.PatternTree.{PatternTree}
+use Rattle.dactl_meaning.specs.declared.tree.PatternTree.TheVariants.{rolls-Binder, rolls-Chain, rolls-Sym}
+use Rattle.dactl_meaning.specs.declared.tree.PatternTree.TheVariants as p
+use Rattle.dactl_meaning.specs.declared.tree.PatternTree.TheOpen.{PatternTree-F}
+use Rattle.dactl_meaning.specs.declared.tree.PatternTree.TheFolds.{fold-roll-PatternTree}
 use Rattle.dactl_syntax.specs.declared.write_patterns.Standing.TheVariants as standing
 use Rattle.dactl_syntax.specs.Canonical.{word, bracketed, separated, before_text, Piece, stand, plain, pattern_level, piece_of, pattern_text, link_text, tail_text}
 

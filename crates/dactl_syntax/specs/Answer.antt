@@ -5,7 +5,7 @@ use Rattle.dactl_base.specs.declared.refusal.Refusal.{Refusal}
 use Rattle.dactl_grammar.specs.Answer.{FirstUnexpected, FirstTooDeep}
 use Rattle.dactl_tokens.specs.declared.token.Token.{Token}
 use Rattle.dactl_syntax.specs.declared.token.Sort.TheVariants as s
-use Rattle.dactl_syntax.specs.declared.tree.Text.{Text}
+use Rattle.dactl_meaning.specs.declared.tree.Text.{Text}
 use Rattle.dactl_syntax.specs.Productions.{Tok, is, text}
 use Rattle.dactl_syntax.specs.Seen.{tokens_seen}
 
@@ -19,7 +19,7 @@ is_bracket t = is s.Open t || is s.Left t
 
 -- the tokens of the text derive the tree, which has the text's length
 pub record IsTree (bytes : List ℕ) (tokens : List Token) (tree : Text) : Type 0 where
-  pub derives : (text most_open).whole (tokens_seen bytes tokens) tree.modules
+  pub derives : (text most_open).whole (tokens_seen bytes tokens) (tree.language, tree.modules)
   pub length : tree.length ≡ length bytes
 
 -- where the next token stands, or the text ends

@@ -1,31 +1,32 @@
--- The canonical text of a tree: its tokens in the order of the grammar, each with one space behind it, but `;` with one LF.
+-- The canonical text of a tree: its tokens in the order of the grammar, each with one space behind it, but `;` and the Header with one LF.
 use Rattle.std.specs.Prelude.{ℕ, zero, suc, Bool, true, false, ◌||◌, List, [], ◌∷◌, ◌++◌, map, Option, Some, None, codes, if◌then◌else◌}
 use Rattle.std.specs.List.{concat}
 use Rattle.std.specs.Fmt.{signed_decimal}
 use Rattle.dactl_base.specs.declared.refusal.Place.{Place}
 use Rattle.dactl_model.specs.declared.program.Class.{Class}
 use Rattle.dactl_model.specs.declared.program.Class.TheVariants as classes
-use Rattle.dactl_syntax.specs.declared.tree.Name.{Name}
-use Rattle.dactl_syntax.specs.declared.tree.Marks.{Marks}
-use Rattle.dactl_syntax.specs.declared.tree.Marks.TheVariants as marks
-use Rattle.dactl_syntax.specs.declared.tree.NodeTree.{NodeTree}
-use Rattle.dactl_syntax.specs.declared.tree.NodeTree.TheOpen.{NodeTree-F, ArgTree-F, TermTree-F}
-use Rattle.dactl_syntax.specs.declared.tree.NodeTree.TheFolds.{fold-NodeTree, fold-ArgTree, fold-TermTree}
-use Rattle.dactl_syntax.specs.declared.tree.ArgTree.{ArgTree}
-use Rattle.dactl_syntax.specs.declared.tree.TermTree.{TermTree}
-use Rattle.dactl_syntax.specs.declared.tree.PatternTree.{PatternTree}
-use Rattle.dactl_syntax.specs.declared.tree.PatternTree.TheOpen.{PatternTree-F}
-use Rattle.dactl_syntax.specs.declared.tree.PatternTree.TheFolds.{fold-PatternTree}
-use Rattle.dactl_syntax.specs.declared.tree.Sign.{Sign}
-use Rattle.dactl_syntax.specs.declared.tree.Sign.TheVariants as signs
-use Rattle.dactl_syntax.specs.declared.tree.Part.{Part}
-use Rattle.dactl_syntax.specs.declared.tree.Part.TheVariants as parts
-use Rattle.dactl_syntax.specs.declared.tree.RuleTree.{RuleTree}
-use Rattle.dactl_syntax.specs.declared.tree.Group.{Group}
-use Rattle.dactl_syntax.specs.declared.tree.Item.{Item}
-use Rattle.dactl_syntax.specs.declared.tree.Item.TheVariants as item
-use Rattle.dactl_syntax.specs.declared.tree.Module.{Module}
-use Rattle.dactl_syntax.specs.declared.tree.Text.{Text}
+use Rattle.dactl_meaning.specs.declared.tree.Name.{Name}
+use Rattle.dactl_meaning.specs.declared.tree.Marks.{Marks}
+use Rattle.dactl_meaning.specs.declared.tree.Marks.TheVariants as marks
+use Rattle.dactl_meaning.specs.declared.tree.NodeTree.{NodeTree}
+use Rattle.dactl_meaning.specs.declared.tree.NodeTree.TheOpen.{NodeTree-F, ArgTree-F, TermTree-F}
+use Rattle.dactl_meaning.specs.declared.tree.NodeTree.TheFolds.{fold-NodeTree, fold-ArgTree, fold-TermTree}
+use Rattle.dactl_meaning.specs.declared.tree.ArgTree.{ArgTree}
+use Rattle.dactl_meaning.specs.declared.tree.TermTree.{TermTree}
+use Rattle.dactl_meaning.specs.declared.tree.PatternTree.{PatternTree}
+use Rattle.dactl_meaning.specs.declared.tree.PatternTree.TheOpen.{PatternTree-F}
+use Rattle.dactl_meaning.specs.declared.tree.PatternTree.TheFolds.{fold-PatternTree}
+use Rattle.dactl_meaning.specs.declared.tree.Sign.{Sign}
+use Rattle.dactl_meaning.specs.declared.tree.Sign.TheVariants as signs
+use Rattle.dactl_meaning.specs.declared.tree.Part.{Part}
+use Rattle.dactl_meaning.specs.declared.tree.Part.TheVariants as parts
+use Rattle.dactl_meaning.specs.declared.tree.RuleTree.{RuleTree}
+use Rattle.dactl_meaning.specs.declared.tree.Group.{Group}
+use Rattle.dactl_meaning.specs.declared.tree.Item.{Item}
+use Rattle.dactl_meaning.specs.declared.tree.Item.TheVariants as item
+use Rattle.dactl_meaning.specs.declared.tree.Module.{Module}
+use Rattle.dactl_meaning.specs.declared.tree.Text.{Text}
+use Rattle.dactl_meaning.specs.Meaning.{is_wide}
 use Rattle.dactl_syntax.specs.declared.write_patterns.Standing.{Standing}
 use Rattle.dactl_syntax.specs.declared.write_patterns.Standing.TheVariants as standing
 
@@ -41,6 +42,10 @@ line_end = codes ";" ++ 10 ∷ []
 abbrev pub separated : List ℕ → List (List ℕ) → List ℕ
 separated sep [] = []
 separated sep (w ∷ ws) = w ++ concat (map (λ v. sep ++ v) ws)
+
+-- a character, with the space behind it
+abbrev pub character : ℕ → List ℕ
+character byte = word (39 ∷ byte ∷ 39 ∷ [])
 
 abbrev pub comma : List ℕ
 comma = word (codes ",")
@@ -78,6 +83,7 @@ body_text (Some name) (Some node) = word name.text ++ (word (codes ":") ++ node)
 
 abbrev pub node_level : NodeTree-F (List ℕ) (List ℕ) (List ℕ) → List ℕ
 node_level (NodeTree-F.Integer value p) = word (signed_decimal value)
+node_level (NodeTree-F.Letter value p) = character value
 node_level (NodeTree-F.Sym name args) = word name.text ++ bracketed args
 
 abbrev pub arg_level : ArgTree-F (List ℕ) (List ℕ) (List ℕ) → List ℕ
@@ -128,7 +134,9 @@ link_text l = sign_text l.0 ++ stand standing.Inner l.1
 abbrev pub pattern_level : PatternTree-F Piece → Piece
 pattern_level PatternTree-F.Any = plain (word (codes "ANY"))
 pattern_level PatternTree-F.Int = plain (word (codes "INT"))
+pattern_level PatternTree-F.Char = plain (word (codes "CHAR"))
 pattern_level (PatternTree-F.Integer value) = plain (word (signed_decimal value))
+pattern_level (PatternTree-F.Letter value) = plain (character value)
 pattern_level (PatternTree-F.Sym name args) = plain (word name.text ++ bracketed (map (stand standing.Inner) args))
 pattern_level (PatternTree-F.Variable name) = record { bytes = word name.text; is_chain = false; is_named = true }
 pattern_level (PatternTree-F.Binder name inner) = record { bytes = word name.text ++ (word (codes ":") ++ stand standing.Bound inner); is_chain = false; is_named = true }
@@ -186,6 +194,10 @@ item_text (item.Initial p terms) = word (codes "INITIAL") ++ (word (codes "=>") 
 abbrev pub module_text : Module → List ℕ
 module_text m = word (codes "MODULE") ++ (word m.name.text ++ (line_end ++ (concat (map item_text m.items) ++ (word (codes "ENDMODULE") ++ (word m.name.text ++ line_end)))))
 
+-- the Header of language 2, with the LF behind it
+abbrev pub header_text : Bool → List ℕ
+header_text wide = if wide then codes "DACTL 2;" ++ 10 ∷ [] else []
+
 -- the canonical text
 abbrev pub canonical : Text → List ℕ
-canonical t = concat (map module_text t.modules)
+canonical t = header_text (is_wide t) ++ concat (map module_text t.modules)

@@ -2,12 +2,12 @@
 use Rattle.std.specs.Prelude.{◌≡◌, ℕ, List}
 use Rattle.dactl_tokens.specs.declared.token.Token.{Token}
 use Rattle.dactl_tokens.specs.Lexes.{Lexes}
-use Rattle.dactl_syntax.specs.declared.tree.Text.{Text}
+use Rattle.dactl_meaning.specs.declared.tree.Text.{Text}
 use Rattle.dactl_syntax.specs.Answer.{IsTree}
-use Rattle.dactl_syntax.specs.Spelling.{IsSpelled}
-use Rattle.dactl_syntax.specs.Order.{PlacesInOrder}
+use Rattle.dactl_meaning.specs.Spelling.{IsSpelled}
+use Rattle.dactl_meaning.specs.Order.{PlacesInOrder}
 use Rattle.dactl_syntax.specs.Canonical.{canonical}
-use Rattle.dactl_syntax.specs.Unplaced.{without_places}
+use Rattle.dactl_meaning.specs.Unplaced.{without_places}
 
 -- the bytes are gaps and tokens that derive the tree
 pub record Reads (bytes : List ℕ) (tree : Text) : Type 0 where

@@ -4,26 +4,26 @@ use Rattle.std.specs.Str.{bytes_eq}
 use Rattle.dactl_base.specs.declared.refusal.Place.{Place}
 use Rattle.dactl_syntax.specs.declared.token.Sort.{Sort}
 use Rattle.dactl_syntax.specs.declared.token.Sort.TheVariants as s
-use Rattle.dactl_syntax.specs.declared.tree.Name.{Name}
-use Rattle.dactl_syntax.specs.declared.tree.Marks.{Marks}
-use Rattle.dactl_syntax.specs.declared.tree.Marks.TheVariants as marks
-use Rattle.dactl_syntax.specs.declared.tree.NodeTree.{NodeTree}
-use Rattle.dactl_syntax.specs.declared.tree.NodeTree.TheVariants as node_tree
-use Rattle.dactl_syntax.specs.declared.tree.TermTree.{TermTree, roll-TermTree}
-use Rattle.dactl_syntax.specs.declared.tree.ArgTree.{ArgTree, roll-ArgTree}
-use Rattle.dactl_syntax.specs.declared.tree.PatternTree.{PatternTree}
-use Rattle.dactl_syntax.specs.declared.tree.PatternTree.TheVariants as p
-use Rattle.dactl_syntax.specs.declared.tree.Sign.{Sign}
-use Rattle.dactl_syntax.specs.declared.tree.Sign.TheVariants as signs
-use Rattle.dactl_syntax.specs.declared.tree.Part.{Part}
-use Rattle.dactl_syntax.specs.declared.tree.Part.TheVariants as parts
-use Rattle.dactl_syntax.specs.declared.tree.RuleTree.{RuleTree}
-use Rattle.dactl_syntax.specs.declared.tree.Group.{Group}
-use Rattle.dactl_syntax.specs.declared.tree.Item.{Item}
-use Rattle.dactl_syntax.specs.declared.tree.Item.TheVariants as item
+use Rattle.dactl_meaning.specs.declared.tree.Name.{Name}
+use Rattle.dactl_meaning.specs.declared.tree.Marks.{Marks}
+use Rattle.dactl_meaning.specs.declared.tree.Marks.TheVariants as marks
+use Rattle.dactl_meaning.specs.declared.tree.NodeTree.{NodeTree}
+use Rattle.dactl_meaning.specs.declared.tree.NodeTree.TheVariants as node_tree
+use Rattle.dactl_meaning.specs.declared.tree.TermTree.{TermTree, roll-TermTree}
+use Rattle.dactl_meaning.specs.declared.tree.ArgTree.{ArgTree, roll-ArgTree}
+use Rattle.dactl_meaning.specs.declared.tree.PatternTree.{PatternTree}
+use Rattle.dactl_meaning.specs.declared.tree.PatternTree.TheVariants as p
+use Rattle.dactl_meaning.specs.declared.tree.Sign.{Sign}
+use Rattle.dactl_meaning.specs.declared.tree.Sign.TheVariants as signs
+use Rattle.dactl_meaning.specs.declared.tree.Part.{Part}
+use Rattle.dactl_meaning.specs.declared.tree.Part.TheVariants as parts
+use Rattle.dactl_meaning.specs.declared.tree.RuleTree.{RuleTree}
+use Rattle.dactl_meaning.specs.declared.tree.Group.{Group}
+use Rattle.dactl_meaning.specs.declared.tree.Item.{Item}
+use Rattle.dactl_meaning.specs.declared.tree.Item.TheVariants as item
 use Rattle.dactl_model.specs.declared.program.Class.{Class}
 use Rattle.dactl_model.specs.declared.program.Class.TheVariants as classes
-use Rattle.dactl_syntax.specs.declared.tree.Module.{Module}
+use Rattle.dactl_meaning.specs.declared.tree.Module.{Module}
 use Rattle.dactl_syntax.specs.Sort.{same_sort, is_class}
 use Rattle.dactl_grammar.specs.Grammar.{Grammar, one, row, choice, maybe, many, means, barred, placed}
 
@@ -92,15 +92,24 @@ counted = means length (many (sign s.Hash))
 abbrev pub mark : Part_of Marks
 mark = choice (means star_of (sign s.Star)) (means hashes_of (pair (sign s.Hash) counted))
 
--- node = Integer | Upper ["[" {arg} "]"]
+-- the byte of a character, which stands between two `'`
+abbrev pub letter : List ℕ → ℕ
+letter [] = 0
+letter (quote ∷ []) = 0
+letter (quote ∷ byte ∷ more) = byte
+
+-- node = Integer | Character | Upper ["[" {arg} "]"]
 abbrev pub integer_of : Tok → NodeTree
 integer_of t = node_tree.Integer t.value (here t)
+
+abbrev pub letter_of : Tok → NodeTree
+letter_of t = node_tree.Letter (letter t.word) (here t)
 
 abbrev pub sym_of : Name × Option (List ArgTree) → NodeTree
 sym_of v = node_tree.Sym v.0 (unwrap_or v.1 [])
 
 abbrev pub node : Part_of (List ArgTree) → Part_of NodeTree
-node args = choice (means integer_of (sign s.Integer)) (means sym_of (pair upper (maybe args)))
+node args = choice (means integer_of (sign s.Integer)) (choice (means letter_of (sign s.Character)) (means sym_of (pair upper (maybe args))))
 
 -- term = [mark] (Lower [":" node] | node)
 abbrev pub named_of : Name × Option NodeTree → Option Name × Option NodeTree
@@ -132,15 +141,21 @@ args (suc n) = behind s.Open (before (many (arg (args n))) s.Close)
 
 -- ---- patterns
 
--- base = "ANY" | "INT" | Integer | Upper ["[" {piece} "]"] | "(" pattern ")"
+-- base = "ANY" | "INT" | "CHAR" | Integer | Character | Upper ["[" {piece} "]"] | "(" pattern ")"
 abbrev pub any_of : Tok → PatternTree
 any_of t = p.Any
 
 abbrev pub int_of : Tok → PatternTree
 int_of t = p.Int
 
+abbrev pub char_of : Tok → PatternTree
+char_of t = p.Char
+
 abbrev pub number_of : Tok → PatternTree
 number_of t = p.Integer t.value
+
+abbrev pub character_of : Tok → PatternTree
+character_of t = p.Letter (letter t.word)
 
 abbrev pub pattern_sym_of : Name × Option (List PatternTree) → PatternTree
 pattern_sym_of v = p.Sym v.0 (unwrap_or v.1 [])
@@ -149,8 +164,10 @@ abbrev pub base : Part_of (List PatternTree) → Part_of PatternTree → Part_of
 base square round =
     choice (means any_of (sign s.Any))
     (choice (means int_of (sign s.Int))
+    (choice (means char_of (sign s.Char))
     (choice (means number_of (sign s.Integer))
-    (choice (means pattern_sym_of (pair upper (maybe square))) round)))
+    (choice (means character_of (sign s.Character))
+    (choice (means pattern_sym_of (pair upper (maybe square))) round)))))
 
 -- piece = Lower [":" base] | base
 abbrev pub piece_at : Name → Option PatternTree → PatternTree
@@ -307,6 +324,10 @@ module_of v = record { name = v.0; items = v.1.0 }
 abbrev pub a_module : ℕ → Part_of Module
 a_module n = means module_of (behind s.Module (row (before upper s.Semicolon) (λ name. pair (many (an_item n)) (behind s.EndModule (before (one (is_name name)) s.Semicolon)))))
 
--- text = module {module}
-abbrev pub text : ℕ → Part_of (List Module)
-text n = several (a_module n)
+-- text = [Header] module {module}; the Header makes language 2
+abbrev pub language_of : Option Tok → ℕ
+language_of None = 1
+language_of (Some t) = 2
+
+abbrev pub text : ℕ → Part_of (ℕ × List Module)
+text n = pair (means language_of (maybe (sign s.Header))) (several (a_module n))

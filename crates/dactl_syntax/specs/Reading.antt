@@ -2,18 +2,18 @@
 use Rattle.std.specs.Prelude.{ℕ, zero, suc, ◌-◌, drop, Bool, false, ◌&&◌, List, [], ◌∷◌, length, Option, is_some}
 use Rattle.dactl_syntax.specs.declared.token.Sort.{Sort}
 use Rattle.dactl_syntax.specs.declared.token.Sort.TheVariants as s
-use Rattle.dactl_syntax.specs.declared.tree.Name.{Name}
-use Rattle.dactl_syntax.specs.declared.tree.Marks.{Marks}
-use Rattle.dactl_syntax.specs.declared.tree.NodeTree.{NodeTree}
-use Rattle.dactl_syntax.specs.declared.tree.TermTree.{TermTree}
-use Rattle.dactl_syntax.specs.declared.tree.ArgTree.{ArgTree}
-use Rattle.dactl_syntax.specs.declared.tree.Part.{Part}
-use Rattle.dactl_syntax.specs.declared.tree.PatternTree.{PatternTree}
-use Rattle.dactl_syntax.specs.declared.tree.Sign.{Sign}
-use Rattle.dactl_syntax.specs.declared.tree.RuleTree.{RuleTree}
-use Rattle.dactl_syntax.specs.declared.tree.Group.{Group}
-use Rattle.dactl_syntax.specs.declared.tree.Item.{Item}
-use Rattle.dactl_syntax.specs.declared.tree.Module.{Module}
+use Rattle.dactl_meaning.specs.declared.tree.Name.{Name}
+use Rattle.dactl_meaning.specs.declared.tree.Marks.{Marks}
+use Rattle.dactl_meaning.specs.declared.tree.NodeTree.{NodeTree}
+use Rattle.dactl_meaning.specs.declared.tree.TermTree.{TermTree}
+use Rattle.dactl_meaning.specs.declared.tree.ArgTree.{ArgTree}
+use Rattle.dactl_meaning.specs.declared.tree.Part.{Part}
+use Rattle.dactl_meaning.specs.declared.tree.PatternTree.{PatternTree}
+use Rattle.dactl_meaning.specs.declared.tree.Sign.{Sign}
+use Rattle.dactl_meaning.specs.declared.tree.RuleTree.{RuleTree}
+use Rattle.dactl_meaning.specs.declared.tree.Group.{Group}
+use Rattle.dactl_meaning.specs.declared.tree.Item.{Item}
+use Rattle.dactl_meaning.specs.declared.tree.Module.{Module}
 use Rattle.dactl_base.specs.declared.refusal.Kind.{Kind}
 use Rattle.dactl_base.specs.declared.refusal.Kind.TheVariants as kinds
 use Rattle.dactl_base.specs.declared.refusal.Refusal.{Refusal}
@@ -22,7 +22,7 @@ use Rattle.dactl_grammar.specs.declared.fault.Fault.TheVariants as faults
 use Rattle.dactl_syntax.specs.Answer.{next_place}
 use Rattle.dactl_syntax.specs.Sort.{same_sort, starts_mark, starts_arg, starts_piece, is_sign, is_class, starts_item}
 use Rattle.dactl_grammar.specs.Reader.{Reader, head_is, read_one, read_row, read_as, read_choice, read_maybe, read_many, read_barred, read_placed, fault_left}
-use Rattle.dactl_syntax.specs.Productions.{ClassHere, Tok, is, name_of, star_of, hashes_of, integer_of, sym_of, named_of, bare_of, term_of, arg_of, part_term, part_redirect, any_of, int_of, number_of, pattern_sym_of, piece_of, plus_of, minus_of, chain_of, rewrites_of, redirects_of, rule_of, group_of, imports_of, class_at, symbols_of, pattern_named_of, rules_of, initial_of, is_name, module_of}
+use Rattle.dactl_syntax.specs.Productions.{ClassHere, Tok, is, name_of, star_of, hashes_of, integer_of, letter_of, sym_of, named_of, bare_of, term_of, arg_of, part_term, part_redirect, any_of, int_of, char_of, number_of, character_of, pattern_sym_of, piece_of, plus_of, minus_of, chain_of, rewrites_of, redirects_of, rule_of, group_of, imports_of, class_at, symbols_of, pattern_named_of, rules_of, initial_of, is_name, module_of, language_of}
 
 abbrev pub Reads : Type 0 → Type 0
 Reads A = Reader Tok A
@@ -61,7 +61,10 @@ unfoldable pub mark_at : Reads Marks
 mark_at = read_choice (head_is (by (same_sort s.Star))) (read_as star_of (read_sign s.Star)) (read_as hashes_of (read_pair (read_sign s.Hash) hashes_at))
 
 abbrev pub read_node : Reads (List ArgTree) → Reads NodeTree
-read_node args = read_choice (head_is (by (same_sort s.Integer))) (read_as integer_of (read_sign s.Integer)) (read_as sym_of (read_pair upper_at (read_maybe (by (same_sort s.Open)) args)))
+read_node args =
+    read_choice (head_is (by (same_sort s.Integer))) (read_as integer_of (read_sign s.Integer))
+    (read_choice (head_is (by (same_sort s.Character))) (read_as letter_of (read_sign s.Character))
+    (read_as sym_of (read_pair upper_at (read_maybe (by (same_sort s.Open)) args))))
 
 abbrev pub read_body : Reads (List ArgTree) → Reads (Option Name × Option NodeTree)
 read_body args = read_choice (head_is (by (same_sort s.Lower))) (read_as named_of (read_pair lower_at (read_maybe (by (same_sort s.Colon)) (read_behind s.Colon (read_node args))))) (read_as bare_of (read_node args))
@@ -94,8 +97,10 @@ abbrev pub read_base : Reads (List PatternTree) → Reads PatternTree → Reads 
 read_base square round =
     read_choice (head_is (by (same_sort s.Any))) (read_as any_of (read_sign s.Any))
     (read_choice (head_is (by (same_sort s.Int))) (read_as int_of (read_sign s.Int))
+    (read_choice (head_is (by (same_sort s.Char))) (read_as char_of (read_sign s.Char))
     (read_choice (head_is (by (same_sort s.Integer))) (read_as number_of (read_sign s.Integer))
-    (read_choice (head_is (by (same_sort s.Upper))) (read_as pattern_sym_of (read_pair upper_at (read_maybe (by (same_sort s.Open)) square))) round)))
+    (read_choice (head_is (by (same_sort s.Character))) (read_as character_of (read_sign s.Character))
+    (read_choice (head_is (by (same_sort s.Upper))) (read_as pattern_sym_of (read_pair upper_at (read_maybe (by (same_sort s.Open)) square))) round)))))
 
 abbrev pub read_piece : Reads (List PatternTree) → Reads PatternTree → Reads PatternTree
 read_piece square round = read_choice (head_is (by (same_sort s.Lower))) (read_as piece_of (read_pair lower_at (read_maybe (by (same_sort s.Colon)) (read_behind s.Colon (read_base square round))))) (read_base square round)
@@ -237,6 +242,14 @@ module_at n = read_as module_of (read_behind s.Module (read_row (read_before upp
 
 unfoldable pub modules_at : ℕ → Reads (List Module)
 modules_at n = read_listed (same_sort s.Module) (module_at n) (module_at n)
+
+-- ---- texts
+
+unfoldable pub language_at : Reads ℕ
+language_at = read_as language_of (read_maybe (by (same_sort s.Header)) (read_sign s.Header))
+
+unfoldable pub text_at : ℕ → Reads (ℕ × List Module)
+text_at n = read_pair language_at (modules_at n)
 
 -- ---- faults
 

@@ -1,10 +1,10 @@
 -- The tokens of a text as the grammar sees them: by what they spell.
-use Rattle.std.specs.Prelude.{ℕ, ◌-◌, ℤ, pos, min, List, length, take, drop, map, if◌then◌else◌, codes}
+use Rattle.std.specs.Prelude.{ℕ, ◌-◌, ℤ, pos, min, List, length, take, drop, map, true, if◌then◌else◌, codes}
 use Rattle.std.specs.Str.{bytes_eq}
 use Rattle.dactl_tokens.specs.declared.token.Token.{Token}
 use Rattle.dactl_tokens.specs.declared.token.TokenKind.{TokenKind}
 use Rattle.dactl_tokens.specs.declared.token.TokenKind.TheVariants as kinds
-use Rattle.dactl_tokens.specs.Spelling.{is_wide, value_of}
+use Rattle.dactl_tokens.specs.Spelling.{is_too_wide, value_of}
 use Rattle.dactl_syntax.specs.declared.token.Sort.{Sort}
 use Rattle.dactl_syntax.specs.declared.token.Sort.TheVariants as s
 use Rattle.dactl_syntax.specs.declared.token.Terminal.{Terminal}
@@ -14,7 +14,7 @@ use Rattle.dactl_syntax.specs.Productions.{Tok}
 unfoldable pub between : List ℕ → ℕ → ℕ → List ℕ
 between text from to = let rest = drop (min from (length text)) text in take (min (length rest) (to - from)) rest
 
--- the keyword that a keyword's bytes spell; what spells none of the others is `INT`
+-- the keyword that a keyword's bytes spell; what spells none of the others is `CHAR`
 unfoldable pub keyword_sort : List ℕ → Sort
 keyword_sort w =
     if bytes_eq w (codes "MODULE") then s.Module else
@@ -28,7 +28,8 @@ keyword_sort w =
     if bytes_eq w (codes "REWRITABLE") then s.Rewritable else
     if bytes_eq w (codes "OVERWRITABLE") then s.Overwritable else
     if bytes_eq w (codes "CREATABLE") then s.Creatable else
-    if bytes_eq w (codes "ANY") then s.Any else s.Int
+    if bytes_eq w (codes "ANY") then s.Any else
+    if bytes_eq w (codes "INT") then s.Int else s.Char
 
 -- the sign that a sign's bytes spell; what spells none of the others is `-`
 unfoldable pub sign_sort : List ℕ → Sort
@@ -57,10 +58,12 @@ sort_of kinds.Lower w = s.Lower
 sort_of kinds.Integer w = s.Integer
 sort_of kinds.Keyword w = keyword_sort w
 sort_of kinds.Sign w = sign_sort w
+sort_of kinds.Header w = s.Header
+sort_of kinds.Character w = s.Character
 
--- the value of an integer's bytes, which fit
+-- the value of an integer's bytes, which fit 128 bits
 abbrev pub value_at : List ℕ → ℤ
-value_at w = if is_wide w then pos 0 else value_of w
+value_at w = if is_too_wide true w then pos 0 else value_of w
 
 -- a token, its bytes and its place
 abbrev pub token_seen : List ℕ → Token → Tok

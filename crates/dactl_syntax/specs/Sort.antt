@@ -2,7 +2,7 @@
 use Rattle.std.specs.Prelude.{Bool, true, false}
 use denote.Enum.Bare.{sameb}
 use Rattle.dactl_syntax.specs.declared.token.Sort.{Sort}
-use Rattle.dactl_syntax.specs.declared.token.Sort.TheVariants.{Upper, Lower, Integer, Star, Hash, Wait, Left, Any, Int, Plus, Minus, Rewritable, Overwritable, Creatable, Imports, Symbol, Pattern, Rule, Initial}
+use Rattle.dactl_syntax.specs.declared.token.Sort.TheVariants.{Upper, Lower, Integer, Character, Star, Hash, Wait, Left, Any, Int, Char, Plus, Minus, Rewritable, Overwritable, Creatable, Imports, Symbol, Pattern, Rule, Initial}
 use Rattle.dactl_syntax.specs.contracts.token.Sort.{the_type}
 
 unfoldable pub same_sort : Sort → Sort → Bool
@@ -15,12 +15,14 @@ starts_mark _ = false
 
 abbrev pub starts_node : Sort → Bool
 starts_node Integer = true
+starts_node Character = true
 starts_node Upper = true
 starts_node _ = false
 
 abbrev pub starts_body : Sort → Bool
 starts_body Lower = true
 starts_body Integer = true
+starts_body Character = true
 starts_body Upper = true
 starts_body _ = false
 
@@ -29,6 +31,7 @@ starts_term Star = true
 starts_term Hash = true
 starts_term Lower = true
 starts_term Integer = true
+starts_term Character = true
 starts_term Upper = true
 starts_term _ = false
 
@@ -38,13 +41,16 @@ starts_arg Star = true
 starts_arg Hash = true
 starts_arg Lower = true
 starts_arg Integer = true
+starts_arg Character = true
 starts_arg Upper = true
 starts_arg _ = false
 
 abbrev pub starts_base : Sort → Bool
 starts_base Any = true
 starts_base Int = true
+starts_base Char = true
 starts_base Integer = true
+starts_base Character = true
 starts_base Upper = true
 starts_base Left = true
 starts_base _ = false
@@ -53,7 +59,9 @@ abbrev pub starts_piece : Sort → Bool
 starts_piece Lower = true
 starts_piece Any = true
 starts_piece Int = true
+starts_piece Char = true
 starts_piece Integer = true
+starts_piece Character = true
 starts_piece Upper = true
 starts_piece Left = true
 starts_piece _ = false

@@ -1,5 +1,4 @@
-//! From the tokens of a text to its tree, and from a tree to its canonical text. The definitions of
-//! what a tree means stand in `specs/`.
+//! From the tokens of a text to its tree, and from a tree to its canonical text.
 #![tactic(auto)]
 
 mod items;
@@ -9,14 +8,16 @@ mod patterns;
 mod rules;
 mod terminals;
 mod terms;
+#[cfg(test)]
+mod tests;
 mod text;
 mod token;
-pub mod tree;
 mod write_items;
 mod write_patterns;
 mod write_rules;
 mod write_terms;
 mod write_words;
 
+pub use dactl_meaning::tree;
 pub use text::parse;
 pub use write_items::write_text;

@@ -11,8 +11,8 @@ ghost use Rattle.dactl_syntax.specs.Seen.{seen, toks};
 use crate::items::item;
 use crate::terms::upper;
 use crate::token::{Sort, Terminal, next_is, one, same_sort, word};
-use crate::tree::{Item, Module, Name};
 use dactl_grammar::fault::{Fault, ReadError};
+use dactl_meaning::tree::{Item, Module, Name};
 use sqlite_items::Items;
 use std::alloc::Global;
 

@@ -9,9 +9,9 @@ ghost use Rattle.dactl_grammar.specs.Giving.{Gives};
 ghost use Rattle.dactl_syntax.specs.Seen.{toks};
 
 use crate::terms::{lower, upper};
-use crate::token::{Sort, Terminal, next_is, one};
-use crate::tree::{PatternTree, Sign};
+use crate::token::{Sort, Terminal, letter, next_is, one};
 use dactl_grammar::fault::{Fault, ReadError};
+use dactl_meaning::tree::{PatternTree, Sign};
 use sqlite_items::{Boxed, Items};
 use std::alloc::{AllocError, Global};
 
@@ -22,7 +22,14 @@ pub fn starts_piece(tokens: &[Terminal]) -> bool
         [] => false,
         [token, ..] => matches!(
             token.sort,
-            Sort::Lower | Sort::Any | Sort::Int | Sort::Integer | Sort::Upper | Sort::Left
+            Sort::Lower
+                | Sort::Any
+                | Sort::Int
+                | Sort::Char
+                | Sort::Integer
+                | Sort::Character
+                | Sort::Upper
+                | Sort::Left
         ),
     }
 }
@@ -67,9 +74,18 @@ fn base<'a>(
         let (_, rest) = one(text, tokens, Sort::Int)?;
         return Ok((PatternTree::Int, rest));
     }
+    if next_is(tokens, Sort::Char) {
+        let (_, rest) = one(text, tokens, Sort::Char)?;
+        return Ok((PatternTree::Char, rest));
+    }
     if next_is(tokens, Sort::Integer) {
         let (token, rest) = one(text, tokens, Sort::Integer)?;
         return Ok((PatternTree::Integer { value: token.value }, rest));
+    }
+    if next_is(tokens, Sort::Character) {
+        let (token, rest) = one(text, tokens, Sort::Character)?;
+        let value = letter(text, token);
+        return Ok((PatternTree::Letter { value }, rest));
     }
     if !next_is(tokens, Sort::Upper) {
         return rounds(alloc, text, tokens, room);

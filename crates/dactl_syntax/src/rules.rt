@@ -10,9 +10,9 @@ ghost use Rattle.dactl_syntax.specs.Seen.{toks};
 use crate::patterns::{pattern, starts_piece};
 use crate::terms::{lower, term};
 use crate::token::{Sort, Terminal, next_is, one, same_sort};
-use crate::tree::{Group, Part, RuleTree};
 use dactl_base::refusal::Place;
 use dactl_grammar::fault::ReadError;
+use dactl_meaning::tree::{Group, Part, RuleTree};
 use sqlite_items::Items;
 use std::alloc::Global;
 

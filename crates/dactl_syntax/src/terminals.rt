@@ -35,8 +35,10 @@ fn keyword_sort(word: &[u8]) -> Sort
         Sort::Creatable
     } else if word == b"ANY".as_slice() {
         Sort::Any
-    } else {
+    } else if word == b"INT".as_slice() {
         Sort::Int
+    } else {
+        Sort::Char
     }
 }
 
@@ -91,13 +93,15 @@ fn sort_of(kind: TokenKind, word: &[u8]) -> Sort
         TokenKind::Integer => Sort::Integer,
         TokenKind::Keyword => keyword_sort(word),
         TokenKind::Sign => sign_sort(word),
+        TokenKind::Header => Sort::Header,
+        TokenKind::Character => Sort::Character,
     }
 }
 
-fn value_at(word: &[u8]) -> i64
+fn value_at(word: &[u8]) -> i128
     ensures { result ≡ value_at word.now }
 {
-    integer(word).unwrap_or(0)
+    integer(true, word).unwrap_or(0)
 }
 
 fn terminal(text: &[u8], token: Token) -> Terminal

@@ -7,9 +7,9 @@ ghost use Rattle.dactl_syntax.specs.Reading.{by, upper_at, lower_at, hashes_at, 
 ghost use Rattle.dactl_grammar.specs.Giving.{Gives};
 ghost use Rattle.dactl_syntax.specs.Seen.{toks};
 
-use crate::token::{Sort, Terminal, name_at, next_is, one, place_of};
-use crate::tree::{ArgTree, Marks, Name, NodeTree, TermTree};
+use crate::token::{Sort, Terminal, letter, name_at, next_is, one, place_of};
 use dactl_grammar::fault::{Fault, ReadError};
+use dactl_meaning::tree::{ArgTree, Marks, Name, NodeTree, TermTree};
 use sqlite_items::Items;
 use std::alloc::Global;
 
@@ -53,7 +53,13 @@ fn starts_arg(tokens: &[Terminal]) -> bool
         [] => false,
         [token, ..] => matches!(
             token.sort,
-            Sort::Wait | Sort::Star | Sort::Hash | Sort::Lower | Sort::Integer | Sort::Upper
+            Sort::Wait
+                | Sort::Star
+                | Sort::Hash
+                | Sort::Lower
+                | Sort::Integer
+                | Sort::Character
+                | Sort::Upper
         ),
     }
 }
@@ -70,13 +76,15 @@ fn node<'a>(
 {
     if next_is(tokens, Sort::Integer) {
         let (token, rest) = one(text, tokens, Sort::Integer)?;
-        return Ok((
-            NodeTree::Integer {
-                value: token.value,
-                place: place_of(token),
-            },
-            rest,
-        ));
+        let value = token.value;
+        let place = place_of(token);
+        return Ok((NodeTree::Integer { value, place }, rest));
+    }
+    if next_is(tokens, Sort::Character) {
+        let (token, rest) = one(text, tokens, Sort::Character)?;
+        let value = letter(text, token);
+        let place = place_of(token);
+        return Ok((NodeTree::Letter { value, place }, rest));
     }
     let (name, rest) = upper(alloc, text, tokens)?;
     if next_is(rest, Sort::Open) {

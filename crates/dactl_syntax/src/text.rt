@@ -6,17 +6,17 @@ ghost use Rattle.dactl_base.specs.declared.refusal.TextFault.TheVariants.{Refuse
 ghost use Rattle.dactl_grammar.specs.Reader.{read_all};
 ghost use Rattle.dactl_grammar.specs.Giving.{Gives};
 ghost use Rattle.dactl_tokens.specs.Answer.{OkOrMemory, RefusedOrMemory};
-ghost use Rattle.dactl_syntax.specs.declared.tree.Text.{Text as The_text};
-ghost use Rattle.dactl_syntax.specs.Reading.{modules_at, refusal_of};
+ghost use Rattle.dactl_meaning.specs.declared.tree.Text.{Text as The_text};
+ghost use Rattle.dactl_syntax.specs.Reading.{language_at, text_at, refusal_of};
 ghost use Rattle.dactl_syntax.specs.Seen.{toks};
 ghost use Rattle.dactl_syntax.specs.Answer.{IsTree, IsFirstFault, most_open, next_place};
 
 use crate::modules::modules;
 use crate::terminals::terminals;
-use crate::token::{Terminal, place_of};
-use crate::tree::{Module, Text};
+use crate::token::{Sort, Terminal, next_is, one, place_of};
 use dactl_base::refusal::{Kind, Place, Refusal, TextFault};
 use dactl_grammar::fault::{Fault, ReadError};
+use dactl_meaning::tree::{Module, Text};
 use dactl_tokens::Token;
 use sqlite_items::Items;
 use std::alloc::Global;
@@ -24,15 +24,30 @@ use std::alloc::Global;
 /// How many brackets may be open.
 const MOST_OPEN: u32 = 200;
 
-/// Reads all of the tokens.
-fn whole(alloc: Global, text: &[u8], tokens: &[Terminal]) -> Result<Items<Module>, ReadError>
-    ensures { Gives (λ x. x) result (read_all (modules_at most_open) (toks text.now tokens.now)) }
+/// Reads the Header of language 2, if it stands there, and answers the language.
+#[tactic(auto, unfolding(crate::specs::Reading::language_at))]
+fn language<'a>(text: &[u8], tokens: &'a [Terminal]) -> Result<(u8, &'a [Terminal]), ReadError>
+    ensures { Gives (λ x. (x.0, toks text.now x.1.now)) result (language_at (toks text.now tokens.now)) }
 {
-    let (modules, rest) = modules(alloc, text, tokens, MOST_OPEN)?;
+    if next_is(tokens, Sort::Header) {
+        let (_, rest) = one(text, tokens, Sort::Header)?;
+        Ok((2, rest))
+    } else {
+        Ok((1, tokens))
+    }
+}
+
+/// Reads all of the tokens: the language and the modules.
+#[tactic(auto, unfolding(crate::specs::Reading::text_at))]
+fn whole(alloc: Global, text: &[u8], tokens: &[Terminal]) -> Result<(u8, Items<Module>), ReadError>
+    ensures { Gives (λ x. (x.0, x.1)) result (read_all (text_at most_open) (toks text.now tokens.now)) }
+{
+    let (language, rest) = language(text, tokens)?;
+    let (modules, rest) = modules(alloc, text, rest, MOST_OPEN)?;
     if !rest.is_empty() {
         return Err(ReadError::Fault(Fault::Unexpected { left: rest.len() }));
     }
-    Ok(modules)
+    Ok((language, modules))
 }
 
 /// Where the token stands that has so many tokens from it on: the end of the text where there are none.
@@ -76,7 +91,8 @@ pub fn parse(alloc: Global, text: &[u8], tokens: &[Token]) -> Result<Text, TextF
 {
     let terminals = terminals(alloc, text, tokens)?;
     match whole(alloc, text, terminals.as_slice()) {
-        Ok(modules) => Ok(Text {
+        Ok((language, modules)) => Ok(Text {
+            language,
             modules,
             length: text.len() as u32,
         }),

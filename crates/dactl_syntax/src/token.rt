@@ -3,14 +3,14 @@
 ghost use Rattle.std.specs.Prelude.{◌≡◌, ℕ, List, IfOk};
 ghost use Rattle.dactl_syntax.specs.Sort.{same_sort};
 ghost use Rattle.dactl_grammar.specs.Reader.{head_is};
-ghost use Rattle.dactl_syntax.specs.Productions.{name_of};
+ghost use Rattle.dactl_syntax.specs.Productions.{name_of, letter};
 ghost use Rattle.dactl_syntax.specs.Reading.{by, read_sign};
 ghost use Rattle.dactl_grammar.specs.Giving.{Gives};
 ghost use Rattle.dactl_syntax.specs.Seen.{between, word_of, seen, toks};
 
-use crate::tree::Name;
 use dactl_base::refusal::Place;
 use dactl_grammar::fault::{Fault, ReadError};
+use dactl_meaning::tree::Name;
 use sqlite_items::Items;
 use std::alloc::{AllocError, Global};
 
@@ -20,6 +20,8 @@ pub enum Sort {
     Upper,
     Lower,
     Integer,
+    Character,
+    Header,
     Module,
     EndModule,
     Imports,
@@ -33,6 +35,7 @@ pub enum Sort {
     Creatable,
     Any,
     Int,
+    Char,
     Open,
     Close,
     Left,
@@ -56,7 +59,7 @@ pub enum Sort {
 #[derive(Clone, Copy, Debug)]
 pub struct Terminal {
     pub sort: Sort,
-    pub value: i64,
+    pub value: i128,
     pub from: u32,
     pub to: u32,
 }
@@ -85,6 +88,16 @@ pub fn word<'a>(text: &'a [u8], token: Terminal) -> &'a [u8]
     ensures { result.now ≡ word_of text.now token }
 {
     between(text, token.from, token.to)
+}
+
+/// The byte of a character, which stands between its two `'`.
+pub fn letter(text: &[u8], token: Terminal) -> u8
+    ensures { result ≡ letter (word_of text.now token) }
+{
+    match word(text, token) {
+        [_, byte, ..] => *byte,
+        _ => 0,
+    }
 }
 
 /// Where a token stands.

@@ -1,15 +1,15 @@
 //! Items and modules of a canonical text.
 
-ghost use Rattle.std.specs.Prelude.{◌≡◌, ◌++◌, OnOk, IfOk, map};
+ghost use Rattle.std.specs.Prelude.{◌≡◌, ◌==◌, ◌++◌, OnOk, IfOk, map};
 ghost use Rattle.std.specs.List.{concat};
-ghost use Rattle.dactl_syntax.specs.Canonical.{comma, separated, names_text, class_text, public_class_text, public_text, term_text, group_text, item_text, module_text, canonical};
+ghost use Rattle.dactl_syntax.specs.Canonical.{comma, separated, names_text, class_text, public_class_text, public_text, term_text, group_text, item_text, module_text, header_text, canonical};
 
-use crate::tree::{Group, Item, Module, Name, TermTree, Text};
 use crate::write_patterns::{Standing, pattern};
 use crate::write_rules::group;
 use crate::write_terms::term;
 use crate::write_words::{before, line_end, name, word};
 use dactl_base::refusal::Place;
+use dactl_meaning::tree::{Group, Item, Module, Name, TermTree, Text};
 use dactl_model::program::Class;
 use std::alloc::{AllocError, Global};
 
@@ -152,13 +152,25 @@ fn modules(out: &mut Vec<u8>, modules: &[Module]) -> Result<(), AllocError>
     Ok(())
 }
 
+/// Writes the Header of a text of language 2 and one LF.
+fn header(out: &mut Vec<u8>, language: u8) -> Result<(), AllocError>
+    ensures { OnOk result (out.new.items ≡ out.old.items ++ header_text (language == 2)) }
+{
+    if language == 2 {
+        out.extend_from_slice(b"DACTL 2;")?;
+        out.push(b'\n')?;
+    }
+    Ok(())
+}
+
 /// The canonical text of a tree: its tokens in the order of the grammar, each with one space behind
-/// it, but `;` with one LF. A text that reads as the tree is written so whatever its gaps and
+/// it, but `;` and the Header with one LF. A text that reads as the tree is written so whatever its gaps and
 /// its needless brackets were.
 pub fn write_text(alloc: Global, text: &Text) -> Result<Vec<u8>, AllocError>
     ensures { IfOk result (λ written. written.items ≡ canonical text.now) }
 {
     let mut out = Vec::new(alloc);
+    header(&mut out, text.language)?;
     modules(&mut out, text.modules.as_slice())?;
     Ok(out)
 }

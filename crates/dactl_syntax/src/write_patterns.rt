@@ -5,8 +5,8 @@ ghost use Rattle.std.specs.List.{concat};
 ghost use Rattle.dactl_syntax.specs.Canonical.{pattern_text, tail_text, brackets, piece_of, sign_text};
 ghost use Rattle.dactl_syntax.specs.declared.write_patterns.Standing.TheVariants as standing;
 
-use crate::tree::{PatternTree, Sign};
-use crate::write_words::{integer, name, word};
+use crate::write_words::{character, integer, name, word};
+use dactl_meaning::tree::{PatternTree, Sign};
 use std::alloc::AllocError;
 
 /// Where a pattern stands: which ones have round brackets about them.
@@ -68,8 +68,16 @@ fn bare(out: &mut Vec<u8>, tree: &PatternTree) -> Result<(), AllocError>
             word(out, b"INT".as_slice())?;
             Ok(())
         }
+        PatternTree::Char => {
+            word(out, b"CHAR".as_slice())?;
+            Ok(())
+        }
         PatternTree::Integer { value } => {
             integer(out, *value)?;
+            Ok(())
+        }
+        PatternTree::Letter { value } => {
+            character(out, *value)?;
             Ok(())
         }
         PatternTree::Sym { name: symbol, args } => {

@@ -3,10 +3,10 @@
 ghost use Rattle.std.specs.Prelude.{◌≡◌, ◌++◌, OnOk, map};
 ghost use Rattle.dactl_syntax.specs.Canonical.{comma, bar, separated, arrow_text, part_text, rule_text, group_text};
 
-use crate::tree::{Group, Part, RuleTree};
 use crate::write_patterns::{Standing, pattern};
 use crate::write_terms::term;
 use crate::write_words::{before, line_end, name, word};
+use dactl_meaning::tree::{Group, Part, RuleTree};
 use std::alloc::AllocError;
 
 fn part(out: &mut Vec<u8>, part: &Part) -> Result<(), AllocError>

@@ -4,8 +4,8 @@ ghost use Rattle.std.specs.Prelude.{◌≡◌, ◌++◌, ◌∷◌, [], OnOk, ma
 ghost use Rattle.std.specs.List.{concat};
 ghost use Rattle.dactl_syntax.specs.Canonical.{word as a_word, repeated, marks_text, node_text, arg_text, term_text};
 
-use crate::tree::{ArgTree, Marks, NodeTree, TermTree};
-use crate::write_words::{integer, name, word};
+use crate::write_words::{character, integer, name, word};
+use dactl_meaning::tree::{ArgTree, Marks, NodeTree, TermTree};
 use std::alloc::AllocError;
 
 fn hashes(out: &mut Vec<u8>, count: u32) -> Result<(), AllocError>
@@ -35,6 +35,10 @@ fn node(out: &mut Vec<u8>, tree: &NodeTree) -> Result<(), AllocError>
     match tree {
         NodeTree::Integer { value, .. } => {
             integer(out, *value)?;
+            Ok(())
+        }
+        NodeTree::Letter { value, .. } => {
+            character(out, *value)?;
             Ok(())
         }
         NodeTree::Sym { name: symbol, args } => {

@@ -4,8 +4,8 @@ ghost use Rattle.std.specs.Prelude.{◌≡◌, ◌++◌, OnOk};
 ghost use Rattle.std.specs.Fmt.{signed_decimal};
 ghost use Rattle.dactl_syntax.specs.Canonical as canonical;
 
-use crate::tree::Name;
 use dactl_base::digits::Digits;
+use dactl_meaning::tree::Name;
 use std::alloc::AllocError;
 
 /// Writes a token and one space.
@@ -32,11 +32,18 @@ pub fn name(out: &mut Vec<u8>, name: &Name) -> Result<(), AllocError>
     word(out, name.text.as_slice())
 }
 
-pub fn integer(out: &mut Vec<u8>, value: i64) -> Result<(), AllocError>
+pub fn integer(out: &mut Vec<u8>, value: i128) -> Result<(), AllocError>
     ensures { OnOk result (out.new.items ≡ out.old.items ++ canonical.word (signed_decimal value)) }
 {
     let mut digits = Digits::new();
-    word(out, digits.text(i128::from(value)))
+    word(out, digits.text(value))
+}
+
+/// Writes a character, its byte between two `'`.
+pub fn character(out: &mut Vec<u8>, byte: u8) -> Result<(), AllocError>
+    ensures { OnOk result (out.new.items ≡ out.old.items ++ canonical.character byte) }
+{
+    word(out, [b'\'', byte, b'\''].as_slice())
 }
 
 /// Writes a token before each part but the first, which has the index 0.

@@ -1,18 +1,18 @@
 -- What is answered for a text: its tokens, or its first fault.
-use Rattle.std.specs.Prelude.{◌≡◌, ℕ, ◌⊎◌, List, Result, Ok, Err}
+use Rattle.std.specs.Prelude.{◌≡◌, ℕ, ◌⊎◌, Bool, List, Result, Ok, Err}
 use Rattle.dactl_base.specs.declared.refusal.Kind.TheVariants.{BadByte, NumberTooWide}
 use Rattle.dactl_base.specs.declared.refusal.Refusal.{Refusal}
 use Rattle.dactl_base.specs.declared.refusal.TextFault.{TextFault}
 use Rattle.dactl_base.specs.declared.refusal.TextFault.TheVariants.{Refused, Memory}
 use Rattle.dactl_tokens.specs.declared.token.Token.{Token}
-use Rattle.dactl_tokens.specs.Lexes.{Scans, IsBad, IsTooWide}
+use Rattle.dactl_tokens.specs.Lexes.{ScansText, has_header, IsBad, IsTooWide}
 
--- up to the place the text is gaps and tokens, and a fault stands there
-pub record StopsAt (text : List ℕ) (place : ℕ) (fault : List ℕ → Type 0) : Type 0 where
+-- up to the place the text is gaps and tokens, and a fault of its language stands there
+pub record StopsAt (text : List ℕ) (place : ℕ) (fault : Bool → List ℕ → Type 0) : Type 0 where
   pub tokens : List Token
   pub rest : List ℕ
-  pub scans : Scans 0 text tokens place rest
-  pub stops : fault rest
+  pub scans : ScansText (has_header text) text tokens place rest
+  pub stops : fault (has_header text) rest
 
 -- the first fault of the text
 abbrev pub IsFirstFault : List ℕ → Refusal → Type 0

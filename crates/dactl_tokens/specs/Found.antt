@@ -1,5 +1,5 @@
 -- What the parts of the lexer find at the front of bytes.
-use Rattle.std.specs.Prelude.{◌≡◌, ℕ, ◌≤◌, ◌<◌, Bool, true, false, ◌⊎◌, List, [], ◌∷◌, ◌++◌, length, take, Some, None}
+use Rattle.std.specs.Prelude.{◌≡◌, ℕ, ◌+◌, ◌≤◌, ◌<◌, Bool, true, false, ◌⊎◌, List, [], ◌∷◌, ◌++◌, length, take, drop, Some, None}
 use Rattle.dactl_tokens.specs.declared.token.TokenKind.{TokenKind}
 use Rattle.dactl_tokens.specs.declared.words.Run.{Run}
 use Rattle.dactl_tokens.specs.declared.words.Run.TheVariants as run
@@ -36,22 +36,27 @@ passes run.Word b = is_word b
 passes run.Digits b = is_digit b
 
 -- so many bytes are the longest token there
-pub record IsWord (bytes : List ℕ) (k : TokenKind) (n : ℕ) : Type 0 where
+pub record IsWord (wide : Bool) (bytes : List ℕ) (k : TokenKind) (n : ℕ) : Type 0 where
   pub fits : n ≤ length bytes
-  pub kind : kind_of (take n bytes) ≡ Some k
-  pub longest : IsLongest n bytes
+  pub kind : kind_of wide (take n bytes) ≡ Some k
+  pub longest : IsLongest wide n bytes
 
 -- no token stands there
-abbrev pub NoWord : List ℕ → Type 0
-NoWord bytes = (k : ℕ) → kind_of (take k bytes) ≡ None
+abbrev pub NoWord : Bool → List ℕ → Type 0
+NoWord wide bytes = (k : ℕ) → kind_of wide (take k bytes) ≡ None
+
+-- what stands behind the Header of a text of language 2; of language 1 it is the whole text
+abbrev pub IsBehind : Bool → List ℕ → List ℕ → Type 0
+IsBehind true text rest = (rest ≡ drop 8 text) × (length rest + 8 ≡ length text)
+IsBehind false text rest = rest ≡ text
 
 -- a token stands first at a place, and the rest behind it
-pub record TokenThere (place : ℕ) (bytes rest : List ℕ) (t : Token) : Type 0 where
+pub record TokenThere (wide : Bool) (place : ℕ) (bytes rest : List ℕ) (t : Token) : Type 0 where
   pub word : List ℕ
   pub parts : bytes ≡ word ++ rest
-  pub is_token : IsTokenAt place word rest t
+  pub is_token : IsTokenAt wide place word rest t
 
 -- a fault stands at a place
-pub record FaultThere (place : ℕ) (bytes : List ℕ) (r : Refusal) : Type 0 where
+pub record FaultThere (wide : Bool) (place : ℕ) (bytes : List ℕ) (r : Refusal) : Type 0 where
   pub at : r.place.byte ≡ place
-  pub fault : ((r.kind ≡ BadByte) × IsBad bytes) ⊎ ((r.kind ≡ NumberTooWide) × IsTooWide bytes)
+  pub fault : ((r.kind ≡ BadByte) × IsBad wide bytes) ⊎ ((r.kind ≡ NumberTooWide) × IsTooWide wide bytes)

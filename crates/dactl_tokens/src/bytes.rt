@@ -62,6 +62,13 @@ pub fn is_long_sign(first: u8, second: u8) -> bool
         || (first == b'-' && second == b'>')
 }
 
+/// Whether the bytes behind a first `'` make a character.
+pub fn is_character(byte: u8, last: u8) -> bool
+    ensures { result ≡ (spell.is_printable byte && (last == 39)) }
+{
+    b' ' <= byte && byte <= b'~' && last == b'\''
+}
+
 /// Whether an integer with a sign stands there.
 pub fn is_minus(first: u8, second: u8) -> bool
     ensures { result ≡ ((first == 45) && spell.is_digit second) }

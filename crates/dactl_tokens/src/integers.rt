@@ -1,18 +1,25 @@
 //! The value of an integer.
 
 ghost use Rattle.std.specs.Prelude.{◌≡◌, ◌+◌, ◌^◌, min, pos, ◌-ℤ◌, nat_lt, nat_le, if◌then◌else◌, Some, None};
-ghost use Rattle.dactl_tokens.specs.Spelling.{decimal, is_wide, value_of};
+ghost use Rattle.dactl_tokens.specs.Spelling.{decimal, bound, is_too_wide, value_of};
+
+/// How far below zero an integer of 128 bits may be.
+const MOST_BELOW: u128 = 1 << 127;
 
 /// How far below zero an integer may be.
-const MOST_BELOW: u64 = 1 << 63;
-
-/// The value of digits, or one past the range if it is greater.
-fn magnitude(digits: &[u8]) -> u64
-    ensures { result ≡ min (decimal 0 digits.now) (2 ^ 63 + 1) }
+fn bound(wide: bool) -> u128
+    ensures { result ≡ bound wide }
 {
-    let mut value: u64 = 0;
+    if wide { MOST_BELOW } else { 1 << 63 }
+}
+
+/// The value of digits, or one past all ranges if it is greater.
+fn magnitude(digits: &[u8]) -> u128
+    ensures { result ≡ min (decimal 0 digits.now) (2 ^ 127 + 1) }
+{
+    let mut value: u128 = 0;
     for digit in digits {
-        let units = u64::from(digit.saturating_sub(b'0'));
+        let units = u128::from(digit.saturating_sub(b'0'));
         value = value
             .saturating_mul(10)
             .saturating_add(units)
@@ -21,34 +28,35 @@ fn magnitude(digits: &[u8]) -> u64
     value
 }
 
-fn above(magnitude: u64) -> Option<i64>
-    ensures { result ≡ (if nat_le (2 ^ 63) magnitude then None else Some (pos magnitude)) }
+fn above(wide: bool, magnitude: u128) -> Option<i128>
+    ensures { result ≡ (if nat_le (bound wide) magnitude then None else Some (pos magnitude)) }
 {
-    if magnitude >= MOST_BELOW {
+    if magnitude >= bound(wide) {
         return None;
     }
-    Some(magnitude as i64)
+    Some(magnitude as i128)
 }
 
-fn below(magnitude: u64) -> Option<i64>
-    ensures { result ≡ (if nat_lt (2 ^ 63) magnitude then None else Some (pos 0 -ℤ pos magnitude)) }
+fn below(wide: bool, magnitude: u128) -> Option<i128>
+    ensures { result ≡ (if nat_lt (bound wide) magnitude then None else Some (pos 0 -ℤ pos magnitude)) }
 {
-    if magnitude > MOST_BELOW {
+    if magnitude > bound(wide) {
         return None;
     }
     if magnitude == MOST_BELOW {
-        return Some(i64::MIN);
+        return Some(i128::MIN);
     }
-    Some(0 - magnitude as i64)
+    Some(0 - magnitude as i128)
 }
 
-/// The value that the bytes of an integer spell: none where it doesn't fit 64 bits with a sign.
-#[tactic(auto, unfolding(crate::specs::Spelling::is_wide))]
-pub fn integer(word: &[u8]) -> Option<i64>
-    ensures { result ≡ (if is_wide word.now then None else Some (value_of word.now)) }
+/// The value that the bytes of an integer spell: none where it doesn't fit the language, which has
+/// integers of 128 bits where `wide` is set and of 64 bits otherwise.
+#[tactic(auto, unfolding(crate::specs::Spelling::is_too_wide))]
+pub fn integer(wide: bool, word: &[u8]) -> Option<i128>
+    ensures { result ≡ (if is_too_wide wide word.now then None else Some (value_of word.now)) }
 {
     match word {
-        [b'-', digits @ ..] => below(magnitude(digits)),
-        digits => above(magnitude(digits)),
+        [b'-', digits @ ..] => below(wide, magnitude(digits)),
+        digits => above(wide, magnitude(digits)),
     }
 }

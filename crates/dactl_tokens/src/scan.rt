@@ -5,10 +5,10 @@ ghost use Rattle.dactl_base.specs.declared.refusal.Refusal.{Refusal as The_refus
 ghost use Rattle.dactl_base.specs.declared.refusal.TextFault.TheVariants.{Refused};
 ghost use Rattle.dactl_tokens.specs.declared.token.Token.{Token as The_token};
 ghost use Rattle.dactl_tokens.specs.declared.token.TokenKind.TheVariants as kinds;
-ghost use Rattle.dactl_tokens.specs.Spelling.{is_wide};
-ghost use Rattle.dactl_tokens.specs.Lexes.{Lexes};
+ghost use Rattle.dactl_tokens.specs.Spelling.{is_too_wide};
+ghost use Rattle.dactl_tokens.specs.Lexes.{Lexes, has_header};
 ghost use Rattle.dactl_tokens.specs.Answer.{IsFirstFault, OkOrMemory, RefusedOrMemory};
-ghost use Rattle.dactl_tokens.specs.Found.{TokenThere, FaultThere, Halts};
+ghost use Rattle.dactl_tokens.specs.Found.{IsBehind, TokenThere, FaultThere, Halts};
 
 use crate::gaps::skip_gap;
 use crate::integers::integer;
@@ -17,13 +17,20 @@ use crate::words::longest;
 use dactl_base::refusal::{Kind, Place, Refusal, TextFault};
 use std::alloc::Global;
 
+/// The token of the first bytes of a text of language 2.
+const HEADER: Token = Token {
+    kind: TokenKind::Header,
+    from: 0,
+    to: 8,
+};
+
 /// Whether the token is no integer past the range.
-fn fits(kind: TokenKind, word: &[u8]) -> bool
-    ensures yes { result ≡ true → kind ≡ kinds.Integer → is_wide word.now ≡ false }
-    ensures no { result ≡ false → (kind ≡ kinds.Integer) × (is_wide word.now ≡ true) }
+fn fits(wide: bool, kind: TokenKind, word: &[u8]) -> bool
+    ensures yes { result ≡ true → kind ≡ kinds.Integer → is_too_wide wide word.now ≡ false }
+    ensures no { result ≡ false → (kind ≡ kinds.Integer) × (is_too_wide wide word.now ≡ true) }
 {
     match kind {
-        TokenKind::Integer => integer(word).is_some(),
+        TokenKind::Integer => integer(wide, word).is_some(),
         _ => true,
     }
 }
@@ -38,18 +45,18 @@ fn refused(kind: Kind, byte: u32) -> TextFault
 }
 
 /// The token that stands first, and what is behind it.
-fn next_token(place: u32, bytes: &[u8]) -> Result<(Token, &[u8]), TextFault>
+fn next_token(wide: bool, place: u32, bytes: &[u8]) -> Result<(Token, &[u8]), TextFault>
     requires halts { Halts bytes.now }
     requires more { 0 < length bytes.now }
     requires fits { place + length bytes.now < 2 ^ 32 }
-    ensures token { IfOk result (λ x. TokenThere place bytes.now x.1.now x.0) }
-    ensures fault { (r : The_refusal) → result ≡ Err (Refused r) → FaultThere place bytes.now r }
+    ensures token { IfOk result (λ x. TokenThere wide place bytes.now x.1.now x.0) }
+    ensures fault { (r : The_refusal) → result ≡ Err (Refused r) → FaultThere wide place bytes.now r }
 {
-    match longest(bytes) {
+    match longest(wide, bytes) {
         None => Err(refused(Kind::BadByte, place)),
         Some((kind, len)) => {
             let (word, rest) = bytes.split_at(len);
-            if !fits(kind, word) {
+            if !fits(wide, kind, word) {
                 return Err(refused(Kind::NumberTooWide, place));
             }
             let to = place + len as u32;
@@ -65,7 +72,20 @@ fn next_token(place: u32, bytes: &[u8]) -> Result<(Token, &[u8]), TextFault>
     }
 }
 
-/// The tokens of a text, with rising places, or its first fault: `BadByte` or `NumberTooWide`.
+/// Whether the text is of language 2, and what stands behind its Header, if it has one.
+#[tactic(auto, unfolding(crate::specs::Lexes::has_header))]
+fn language(text: &[u8]) -> (bool, &[u8])
+    ensures wide { result.0 ≡ has_header text.now }
+    ensures behind { IsBehind result.0 text.now result.1.now }
+{
+    match text.strip_prefix(b"DACTL 2;") {
+        Some(behind) => (true, behind),
+        None => (false, text),
+    }
+}
+
+/// The tokens of a text, with rising places, or its first fault: `BadByte` or `NumberTooWide`. The
+/// text is of language 2 where it begins with `DACTL 2;`, and its first token is the Header then.
 pub fn tokens(alloc: Global, text: &[u8]) -> Result<Vec<Token>, TextFault>
     requires short { length text.now ≤ 1048576 }
     ensures found { IfOk result (λ found. Lexes text.now found.items) }
@@ -73,11 +93,15 @@ pub fn tokens(alloc: Global, text: &[u8]) -> Result<Vec<Token>, TextFault>
     ensures refused { (r : The_refusal) → result ≡ Err (Refused r) → IsFirstFault text.now r }
     ensures only_refused { (r : The_refusal) → IsFirstFault text.now r → RefusedOrMemory r result }
 {
+    let (wide, behind) = language(text);
     let mut found = Vec::new(alloc);
-    let mut rest = skip_gap(text);
+    if wide {
+        found.push(HEADER)?;
+    }
+    let mut rest = skip_gap(behind);
     'token: while !rest.is_empty() {
         let place = (text.len() - rest.len()) as u32;
-        let (token, after) = next_token(place, rest)?;
+        let (token, after) = next_token(wide, place, rest)?;
         found.push(token)?;
         rest = skip_gap(after);
     }

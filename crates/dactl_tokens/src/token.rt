@@ -9,6 +9,10 @@ pub enum TokenKind {
     Integer,
     Keyword,
     Sign,
+    /// The first 8 bytes of a text of language 2.
+    Header,
+    /// One byte between two `'`, in language 2.
+    Character,
 }
 
 /// A token, and where it stands in the text: from the byte `from` up to the byte before `to`.

@@ -1,10 +1,12 @@
 //! The longest token at a place.
 
-ghost use Rattle.std.specs.Prelude.{◌≡◌, ◌∷◌, false, IfSome, IfNone};
+ghost use Rattle.std.specs.Prelude.{◌≡◌, ◌==◌, ◌&&◌, ◌∷◌, true, false, IfSome, IfNone};
 ghost use Rattle.dactl_tokens.specs.Spelling as spell;
 ghost use Rattle.dactl_tokens.specs.Found.{IsRun, IsWord, NoWord, passes};
 
-use crate::bytes::{is_digit, is_long_sign, is_lower, is_minus, is_sign_byte, is_upper, is_word};
+use crate::bytes::{
+    is_character, is_digit, is_long_sign, is_lower, is_minus, is_sign_byte, is_upper, is_word,
+};
 use crate::token::TokenKind;
 
 /// What a token goes on with behind its first bytes.
@@ -35,8 +37,8 @@ fn run_len(bytes: &[u8], run: Run) -> usize
 }
 
 #[tactic(auto, unfolding(crate::specs::Spelling::is_keyword))]
-fn is_keyword(word: &[u8]) -> bool
-    ensures { result ≡ spell.is_keyword word.now }
+fn is_keyword(wide: bool, word: &[u8]) -> bool
+    ensures { result ≡ spell.is_keyword wide word.now }
 {
     word == b"MODULE".as_slice()
         || word == b"ENDMODULE".as_slice()
@@ -51,15 +53,33 @@ fn is_keyword(word: &[u8]) -> bool
         || word == b"CREATABLE".as_slice()
         || word == b"ANY".as_slice()
         || word == b"INT".as_slice()
+        || (wide && word == b"CHAR".as_slice())
+}
+
+/// The character that stands behind its first `'`.
+fn character(rest: &[u8]) -> Option<(TokenKind, usize)>
+    ensures some { IfSome result (λ x. IsWord true (39 ∷ rest.now) x.0 x.1) }
+    ensures none { IfNone result (NoWord true (39 ∷ rest.now)) }
+{
+    match rest {
+        [byte, last, ..] => {
+            if is_character(*byte, *last) {
+                return Some((TokenKind::Character, 3));
+            }
+            None
+        }
+        _ => None,
+    }
 }
 
 /// The sign or the integer with a sign that stands first.
-fn sign(first: u8, rest: &[u8]) -> Option<(TokenKind, usize)>
+fn sign(wide: bool, first: u8, rest: &[u8]) -> Option<(TokenKind, usize)>
     requires upper { spell.is_upper first ≡ false }
     requires lower { spell.is_lower first ≡ false }
     requires digit { spell.is_digit first ≡ false }
-    ensures some { IfSome result (λ x. IsWord (first ∷ rest.now) x.0 x.1) }
-    ensures none { IfNone result (NoWord (first ∷ rest.now)) }
+    requires quote { ((first == 39) && wide) ≡ false }
+    ensures some { IfSome result (λ x. IsWord wide (first ∷ rest.now) x.0 x.1) }
+    ensures none { IfNone result (NoWord wide (first ∷ rest.now)) }
 {
     match rest {
         [] => {
@@ -85,15 +105,15 @@ fn sign(first: u8, rest: &[u8]) -> Option<(TokenKind, usize)>
 }
 
 /// The longest token that stands first.
-fn word(bytes: &[u8], first: u8, rest: &[u8]) -> Option<(TokenKind, usize)>
+fn word(wide: bool, bytes: &[u8], first: u8, rest: &[u8]) -> Option<(TokenKind, usize)>
     requires { bytes.now ≡ first ∷ rest.now }
-    ensures some { IfSome result (λ x. IsWord (first ∷ rest.now) x.0 x.1) }
-    ensures none { IfNone result (NoWord (first ∷ rest.now)) }
+    ensures some { IfSome result (λ x. IsWord wide (first ∷ rest.now) x.0 x.1) }
+    ensures none { IfNone result (NoWord wide (first ∷ rest.now)) }
 {
     if is_upper(first) {
         let n = run_len(rest, Run::Word);
         let (front, _) = bytes.split_at(n + 1);
-        if is_keyword(front) {
+        if is_keyword(wide, front) {
             return Some((TokenKind::Keyword, n + 1));
         }
         return Some((TokenKind::Upper, n + 1));
@@ -106,16 +126,19 @@ fn word(bytes: &[u8], first: u8, rest: &[u8]) -> Option<(TokenKind, usize)>
         let n = run_len(rest, Run::Digits);
         return Some((TokenKind::Integer, n + 1));
     }
-    sign(first, rest)
+    if first == b'\'' && wide {
+        return character(rest);
+    }
+    sign(wide, first, rest)
 }
 
-/// The longest token at the front of the bytes, and its length.
-pub fn longest(bytes: &[u8]) -> Option<(TokenKind, usize)>
-    ensures some { IfSome result (λ x. IsWord bytes.now x.0 x.1) }
-    ensures none { IfNone result (NoWord bytes.now) }
+/// The longest token at the front of the bytes, and its length, in language 2 where `wide` is set.
+pub fn longest(wide: bool, bytes: &[u8]) -> Option<(TokenKind, usize)>
+    ensures some { IfSome result (λ x. IsWord wide bytes.now x.0 x.1) }
+    ensures none { IfNone result (NoWord wide bytes.now) }
 {
     match bytes {
         [] => None,
-        [first, rest @ ..] => word(bytes, *first, rest),
+        [first, rest @ ..] => word(wide, bytes, *first, rest),
     }
 }

@@ -8,11 +8,11 @@ use Rattle.dactl_base.specs.declared.refusal.Refusal.{Refusal}
 use Rattle.dactl_base.specs.declared.refusal.TextFault.{TextFault}
 use Rattle.dactl_base.specs.declared.refusal.TextFault.TheVariants as faults
 use Rattle.dactl_model.specs.declared.program.Program.{Program}
-use Rattle.dactl_syntax.specs.declared.tree.Text.{Text}
-use Rattle.dactl_syntax.specs.Faults.{phase, Precedes, NoFault, IsLeastFault, IsDueFault, TellsFaults}
-use Rattle.dactl_syntax.specs.Declarations.{items}
-use Rattle.dactl_syntax.specs.ScopeFaults.{HasScopeFault, ScopeFault}
-use Rattle.dactl_syntax.specs.Meaning.{CycleFault, RuleFault, TreeFault, program_of}
+use Rattle.dactl_meaning.specs.declared.tree.Text.{Text}
+use Rattle.dactl_meaning.specs.Faults.{phase, Precedes, NoFault, IsLeastFault, IsDueFault, TellsFaults}
+use Rattle.dactl_meaning.specs.Declarations.{items}
+use Rattle.dactl_meaning.specs.ScopeFaults.{HasScopeFault, ScopeFault}
+use Rattle.dactl_meaning.specs.Meaning.{CycleFault, RuleFault, TreeFault, program_of}
 use Rattle.dactl_syntax.specs.Laws.{Reads}
 use Rattle.dactl_tokens.specs.declared.token.Token.{Token}
 use Rattle.dactl_tokens.specs.Lexes.{Lexes}
@@ -49,6 +49,8 @@ scope_phase t kinds.NotOverwritable place has = absurd has
 scope_phase t kinds.NotCreatable place has = absurd has
 scope_phase t kinds.MarkOnBound place has = absurd has
 scope_phase t kinds.TooManyWaits place has = absurd has
+scope_phase t kinds.NotAConstructor place has = absurd has
+scope_phase t kinds.WrongArity place has = absurd has
 
 -- ---- and so the phases go one after the other
 

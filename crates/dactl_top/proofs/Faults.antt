@@ -4,13 +4,13 @@ use Rattle.std.proofs.lemmas.Bool.{cases_lt}
 use Rattle.dactl_base.specs.declared.refusal.Kind.{Kind}
 use Rattle.dactl_base.specs.declared.refusal.Kind.TheVariants as kinds
 use Rattle.dactl_base.specs.declared.refusal.Refusal.{Refusal}
-use Rattle.dactl_syntax.specs.Faults.{phase, rank, IsLeastFault}
+use Rattle.dactl_meaning.specs.Faults.{phase, rank, IsLeastFault}
 
 -- the kinds in the order of their ranks
 by_rank : List Kind
 by_rank =
     kinds.BadByte ∷ kinds.NumberTooWide ∷ kinds.Unexpected ∷ kinds.TooDeep ∷ kinds.TwiceDeclared ∷ kinds.UnknownModule ∷ kinds.UnknownName ∷ kinds.NotVisible ∷ kinds.PublicTooStrong ∷ kinds.NoInitial ∷ kinds.TwoInitials ∷ kinds.TooMany
-    ∷ kinds.PatternCycle ∷ kinds.RootNotRewritable ∷ kinds.BinderInChoice ∷ kinds.TooWide ∷ kinds.Unbound ∷ kinds.NamedTwice ∷ kinds.RedirectedTwice ∷ kinds.NotOverwritable ∷ kinds.NotCreatable ∷ kinds.MarkOnBound ∷ kinds.TooManyWaits ∷ []
+    ∷ kinds.PatternCycle ∷ kinds.RootNotRewritable ∷ kinds.BinderInChoice ∷ kinds.TooWide ∷ kinds.Unbound ∷ kinds.NamedTwice ∷ kinds.RedirectedTwice ∷ kinds.NotOverwritable ∷ kinds.NotCreatable ∷ kinds.MarkOnBound ∷ kinds.TooManyWaits ∷ kinds.NotAConstructor ∷ kinds.WrongArity ∷ []
 
 at_rank : (k : Kind) → slice_get by_rank (rank k) ≡ Some k
 unfolding by_rank
@@ -37,6 +37,8 @@ at_rank kinds.NotOverwritable = refl
 at_rank kinds.NotCreatable = refl
 at_rank kinds.MarkOnBound = refl
 at_rank kinds.TooManyWaits = refl
+at_rank kinds.NotAConstructor = refl
+at_rank kinds.WrongArity = refl
 
 same_kind : (a b : Kind) → rank a ≡ rank b → a ≡ b
 same_kind a b is = let e : Some a ≡ Some b = sym (at_rank a) ∙ ap (slice_get by_rank) is ∙ at_rank b in cc

@@ -5,7 +5,7 @@ use Rattle.std.specs.List.{AllByRecursion}
 use Rattle.std.specs.Prelude.{All}
 use Rattle.dactl_model.specs.declared.graph.NodeId.{NodeId}
 use Rattle.dactl_model.specs.declared.graph.Label.{Label}
-use Rattle.dactl_model.specs.declared.graph.Label.TheVariants.{Symbol, Integer}
+use Rattle.dactl_model.specs.declared.graph.Label.TheVariants.{Symbol, Integer, Character}
 use Rattle.dactl_model.specs.declared.graph.Node.{Node}
 use Rattle.dactl_model.specs.declared.graph.Graph.{Graph}
 use Rattle.dactl_model.specs.declared.graph.Event.{Event}
@@ -18,7 +18,7 @@ use Rattle.dactl_model.specs.declared.program.Body.TheVariants.{Written, Delta}
 use Rattle.dactl_model.specs.declared.program.Program.{Program}
 use Rattle.dactl_model.specs.Matching.{truth, delta_label}
 use Rattle.dactl_model.specs.Programs.{IsValid, IsLabel, IsFreshNode, IsBody}
-use Rattle.dactl_model.specs.Firing.{old_nodes, fresh_node, new_nodes, redirection, redirections, woken_variables, fired, start_of}
+use Rattle.dactl_model.specs.Firing.{old_nodes, fresh_node, new_nodes, redirection, redirections, woken_variables, suspension, fired, start_of}
 use Rattle.dactl_model.specs.Noting.{noted_nodes}
 use Rattle.dactl_model.specs.Steps.{Step, Reduction}
 use Rattle.dactl_model.specs.declared.graph.Entry.{Entry}
@@ -30,10 +30,11 @@ IsAmong count node = IsLabelAmong count node.label
 among_of : (count arcs : ℕ) (label : Label) → IsLabel count label arcs → IsLabelAmong count label
 among_of count arcs (Symbol f) is = is
 among_of count arcs (Integer i) is = tt
+among_of count arcs (Character c) is = tt
 
-old_among : (count : ℕ) (f : NodeId → NodeId) (n : NodeId) (h : List NodeId) (wakes : List ℕ) (k : ℕ) (nodes : List Node) → AllByRecursion (IsAmong count) nodes → AllByRecursion (IsAmong count) (old_nodes f n h wakes k nodes)
-old_among count f n h wakes k [] all = tt
-old_among count f n h wakes k (node ∷ nodes) all = (all.0, old_among count f n h wakes (k + 1) nodes all.1)
+old_among : (count : ℕ) (f : NodeId → NodeId) (n : NodeId) (h : List NodeId) (wakes : List ℕ) (suspend k : ℕ) (nodes : List Node) → AllByRecursion (IsAmong count) nodes → AllByRecursion (IsAmong count) (old_nodes f n h wakes suspend k nodes)
+old_among count f n h wakes suspend k [] all = tt
+old_among count f n h wakes suspend k (node ∷ nodes) all = (all.0, old_among count f n h wakes suspend (k + 1) nodes all.1)
 
 noted_among : (count : ℕ) (n : NodeId) (k : ℕ) (nodes : List Node) → AllByRecursion (IsAmong count) nodes → AllByRecursion (IsAmong count) (noted_nodes n k nodes)
 noted_among count n k [] all = tt
@@ -54,14 +55,14 @@ delta_among count Eq g h seven = truth_among count _ seven
 delta_among count Lt g h seven = truth_among count _ seven
 
 new_among : (count variables m : ℕ) (h : List NodeId) (f : NodeId → NodeId) (g : Graph) (body : Body) → 7 ≤ count → IsBody count variables body → All (IsAmong count) (map (fresh_node m h f) (new_nodes body g h))
-new_among count variables m h f g (Written fresh moves wakes) seven is = fresh_among count variables (length fresh) m h f fresh is.news.each
+new_among count variables m h f g (Written fresh moves wakes suspend) seven is = fresh_among count variables (length fresh) m h f fresh is.news.each
 new_among count variables m h f g (Delta o) seven is = All-from_recursion (IsAmong count) (map (fresh_node m h f) (new_nodes (Delta o) g h)) (delta_among count o g h seven, tt)
 
 fired_among : (count variables : ℕ) (g : Graph) (n : NodeId) (h : List NodeId) (body : Body) → 7 ≤ count → IsBody count variables body → All (IsAmong count) g.nodes → All (IsAmong count) (fired g n h body).nodes
 fired_among count variables g n h body seven is all =
     let f = redirection (length g.nodes) n h (redirections body) in
-    All-append (IsAmong count) (old_nodes f n h (woken_variables body) 0 g.nodes) (map (fresh_node (length g.nodes) h f) (new_nodes body g h))
-    (All-from_recursion _ _ (old_among count f n h (woken_variables body) 0 g.nodes (recursion_from_All _ _ all)))
+    All-append (IsAmong count) (old_nodes f n h (woken_variables body) (suspension body) 0 g.nodes) (map (fresh_node (length g.nodes) h f) (new_nodes body g h))
+    (All-from_recursion _ _ (old_among count f n h (woken_variables body) (suspension body) 0 g.nodes (recursion_from_All _ _ all)))
     (new_among count variables (length g.nodes) h f g body seven is)
 
 pub keeps_symbols : (p : Program) (g after : Graph) (e : Event) → IsValid p → HasSymbolsOf p g → Step p g e after → HasSymbolsOf p after

@@ -7,11 +7,11 @@ use Rattle.dactl_model.specs.declared.program.Program.{Program}
 use Rattle.dactl_tokens.specs.declared.token.Token.{Token}
 use Rattle.dactl_tokens.specs.Lexes.{Lexes}
 use Rattle.dactl_tokens.specs.Answer as tokens
-use Rattle.dactl_syntax.specs.declared.tree.Text.{Text}
+use Rattle.dactl_meaning.specs.declared.tree.Text.{Text}
 use Rattle.dactl_syntax.specs.Answer as grammar
 use Rattle.dactl_syntax.specs.Laws.{Reads}
-use Rattle.dactl_syntax.specs.Faults.{NoFault, IsLeastFault}
-use Rattle.dactl_syntax.specs.Meaning.{TreeFault, program_of}
+use Rattle.dactl_meaning.specs.Faults.{NoFault, IsLeastFault}
+use Rattle.dactl_meaning.specs.Meaning.{TreeFault, program_of}
 
 -- the bytes read a tree that has no fault, and the program is the tree's
 pub record IsProgramOf (bytes : List ℕ) (p : Program) : Type 0 where

@@ -50,6 +50,8 @@ kind_name kinds.NotOverwritable = codes "NotOverwritable"
 kind_name kinds.NotCreatable = codes "NotCreatable"
 kind_name kinds.MarkOnBound = codes "MarkOnBound"
 kind_name kinds.TooManyWaits = codes "TooManyWaits"
+kind_name kinds.NotAConstructor = codes "NotAConstructor"
+kind_name kinds.WrongArity = codes "WrongArity"
 
 -- the line that tells why a text is refused, and at which byte
 abbrev pub refused_line : Refusal → List ℕ

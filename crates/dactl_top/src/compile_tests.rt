@@ -2,6 +2,7 @@
 
 use crate::compile::compile;
 use dactl_base::refusal::TextFault;
+use dactl_meaning::tree::{Item, RuleTree, Text};
 use dactl_model::graph::{Label, Mark};
 use dactl_model::program::{
     Body, Class, FreshArc, FreshNode, Left, Mention, Move, Pat, Program, Rule, Symbol,
@@ -10,7 +11,6 @@ use dactl_patterns::{Expanded, pattern};
 use dactl_symbols::scope;
 use dactl_symbols::sight::{Scopes, Seen};
 use dactl_syntax::parse;
-use dactl_syntax::tree::{Item, RuleTree, Text};
 use dactl_tokens::tokens;
 use std::alloc::Global;
 
@@ -225,8 +225,10 @@ fn is_meant(rules: &[Rule]) -> bool {
             fresh,
             moves,
             wakes,
+            suspend,
         } => {
             has_nodes(fresh.as_slice())
+                && *suspend == 0
                 && has_moves(moves.as_slice())
                 && wakes.as_slice() == [1].as_slice()
         }

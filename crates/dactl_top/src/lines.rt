@@ -54,6 +54,8 @@ fn kind_name(kind: Kind) -> &'static [u8]
         Kind::NotCreatable => b"NotCreatable",
         Kind::MarkOnBound => b"MarkOnBound",
         Kind::TooManyWaits => b"TooManyWaits",
+        Kind::NotAConstructor => b"NotAConstructor",
+        Kind::WrongArity => b"WrongArity",
     }
 }
 

@@ -10,11 +10,12 @@ syntax iskeyword @,48-57,_
 syntax keyword dactlStructure MODULE ENDMODULE IMPORTS
 syntax keyword dactlKeyword SYMBOL PATTERN RULE INITIAL
 syntax keyword dactlClass PUBLIC REWRITABLE OVERWRITABLE CREATABLE
-syntax keyword dactlAny ANY INT
+syntax keyword dactlAny ANY INT CHAR
 syntax keyword dactlArithmetic Arithmetic IAdd ISub IMul IEq ILt True False
 syntax match dactlName /\<[A-Z][A-Za-z0-9_]*\>/
 syntax match dactlVariable /\<[a-z][A-Za-z0-9_]*\>/
 syntax match dactlInteger /-\?\d\+/
+syntax match dactlCharacter /'[ -~]'/
 syntax match dactlArrow /=>\|->\|:=/
 syntax match dactlGroup /[;|]/
 syntax match dactlMark /[*^]\|#\+/
@@ -29,6 +30,7 @@ highlight default link dactlArithmetic Function
 highlight default link dactlName Type
 highlight default link dactlVariable Identifier
 highlight default link dactlInteger Number
+highlight default link dactlCharacter Character
 highlight default link dactlArrow Operator
 highlight default link dactlGroup Delimiter
 highlight default link dactlMark Special

@@ -1,24 +1,16 @@
 //! Whether a rule of the tests' programs matches at a node.
 
-ghost use Rattle.std.specs.Prelude.{◌≡◌, IsTrue, All, IsSomeAnd, map, slice_get};
+ghost use Rattle.std.specs.Prelude.{◌≡◌, ◌<◌, IsTrue, All, IsSomeAnd, length, map, slice_get};
 ghost use Rattle.dactl_model.specs.Graphs.{HasNode, node_at};
-ghost use Rattle.dactl_model.specs.Patterns.{sat, has_symbol, is_bound, all_hold};
-ghost use Rattle.dactl_model.specs.Matching.{Matches};
+ghost use Rattle.dactl_model.specs.Patterns.{sat, is_bound, all_hold};
+ghost use Rattle.dactl_model.specs.Matching as spec;
 ghost use Rattle.dactl_store.specs.Held.{IsValid};
 
-use dactl_model::graph::{Label, NodeId};
+use dactl_model::arithmetic;
+use dactl_model::graph::NodeId;
 use dactl_model::program::{Body, Pat, Program};
 use dactl_model::view::View;
 use dactl_store::Store;
-
-fn is_symbol(label: Label, symbol: u32) -> bool
-    ensures { result ≡ has_symbol label symbol }
-{
-    match label {
-        Label::Symbol(other) => other == symbol,
-        Label::Integer(_) => false,
-    }
-}
 
 fn is_bound_to(bound: &[NodeId], variable: u8, node: NodeId) -> bool
     ensures { result ≡ is_bound (slice_get bound.now variable) node }
@@ -29,8 +21,8 @@ fn is_bound_to(bound: &[NodeId], variable: u8, node: NodeId) -> bool
     }
 }
 
-/// Whether the pattern holds at the node. Integers, unions, differences, and symbols with other than two
-/// arguments count as failing, since the rule of the tests has none.
+/// Whether the pattern holds at the node. Single integers and characters, unions, differences, and symbols
+/// with other than two arguments count as failing, since the rules of the tests have none.
 #[cycle(holds)]
 fn holds(store: &Store, bound: &[NodeId], pattern: &Pat, node: NodeId) -> bool
     requires { IsValid store.now }
@@ -41,13 +33,15 @@ fn holds(store: &Store, bound: &[NodeId], pattern: &Pat, node: NodeId) -> bool
     }
     match pattern {
         Pat::Any => true,
+        Pat::Int => store.label(node).is_integer(),
         Pat::Bind { var, inner } => {
             is_bound_to(bound, *var, node) && holds(store, bound, inner.get(), node)
         }
         Pat::Sym { symbol, args } => {
-            is_symbol(store.label(node), *symbol) && both_hold(store, bound, args.as_slice(), node)
+            store.label(node).has_symbol(*symbol) && both_hold(store, bound, args.as_slice(), node)
         }
-        Pat::Int | Pat::Literal(_) | Pat::Union { .. } | Pat::Less { .. } => false,
+        Pat::Char | Pat::Literal(_) | Pat::Letter(_) => false,
+        Pat::Union { .. } | Pat::Less { .. } => false,
     }
 }
 
@@ -75,11 +69,37 @@ fn are_nodes(store: &Store, bound: &[NodeId]) -> bool
     bound.iter().all(|node| node.number < count)
 }
 
-/// Whether the rule of this number is a written one that matches at the node, with these nodes for its
-/// variables.
+/// The integer at the node of a variable.
+fn operand(store: &Store, bound: &[NodeId], variable: usize) -> i128
+    requires valid { IsValid store.now }
+    requires bound { All (HasNode store.now.graph) bound.now }
+    requires variable { variable < length bound.now }
+    ensures { result ≡ spec.operand store.now.graph bound.now variable }
+{
+    store.label(bound[variable]).integer()
+}
+
+/// Whether the body is written, or its operation has a result.
+fn has_result(store: &Store, wide: bool, body: &Body, bound: &[NodeId]) -> bool
+    requires valid { IsValid store.now }
+    requires bound { All (HasNode store.now.graph) bound.now }
+    ensures { IsTrue result → spec.HasResult wide body.now store.now.graph bound.now }
+{
+    let Body::Delta(op) = body else {
+        return true;
+    };
+    if bound.len() != 2 {
+        return false;
+    }
+    let x = operand(store, bound, 0);
+    let y = operand(store, bound, 1);
+    arithmetic::has_result(wide, *op, x, y)
+}
+
+/// Whether the rule of this number matches at the node, with these nodes for its variables.
 pub fn is_match(store: &Store, program: &Program, node: NodeId, rule: u32, bound: &[NodeId]) -> bool
     requires { IsValid store.now }
-    ensures { IsTrue result → Matches program.now store.now.graph node rule bound.now }
+    ensures { IsTrue result → spec.Matches program.now store.now.graph node rule bound.now }
 {
     let Some(found) = program.rules.as_slice().get(rule as usize) else {
         return false;
@@ -87,5 +107,5 @@ pub fn is_match(store: &Store, program: &Program, node: NodeId, rule: u32, bound
     if bound.len() != found.variables as usize || !are_nodes(store, bound) {
         return false;
     }
-    matches!(found.body, Body::Written { .. }) && holds(store, bound, &found.pattern, node)
+    has_result(store, program.wide, &found.body, bound) && holds(store, bound, &found.pattern, node)
 }

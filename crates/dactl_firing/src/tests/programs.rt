@@ -52,20 +52,18 @@ pub fn new(place: u32) -> Mention {
     Mention::Fresh(place)
 }
 
+pub fn arc(to: Mention, waits: bool) -> FreshArc {
+    FreshArc { to, waits }
+}
+
 /// A plain arc.
 pub fn to(mention: Mention) -> FreshArc {
-    FreshArc {
-        to: mention,
-        waits: false,
-    }
+    arc(mention, false)
 }
 
 /// A flagged arc.
 pub fn waits_for(mention: Mention) -> FreshArc {
-    FreshArc {
-        to: mention,
-        waits: true,
-    }
+    arc(mention, true)
 }
 
 /// Plain arcs to two new nodes.
@@ -86,6 +84,14 @@ pub fn from(var: u8, mention: Mention) -> Move {
         to: mention,
     }
 }
+
+/// A rule that makes nothing.
+pub const NOTHING: Contractum<'static> = Contractum {
+    fresh: &[],
+    moves: &[],
+    wakes: &[],
+    suspend: 0,
+};
 
 /// A new node, with borrowed arcs.
 #[derive(Clone, Copy)]
@@ -117,6 +123,7 @@ pub struct Contractum<'a> {
     pub fresh: &'a [NewNode<'a>],
     pub moves: &'a [Move],
     pub wakes: &'a [u8],
+    pub suspend: u8,
 }
 
 fn rule(alloc: Global, made: Contractum<'_>) -> Result<Rule, Memory> {
@@ -129,6 +136,7 @@ fn rule(alloc: Global, made: Contractum<'_>) -> Result<Rule, Memory> {
             fresh: nodes(alloc, made.fresh)?,
             moves: Items::from_slice(alloc, made.moves)?,
             wakes: Items::from_slice(alloc, made.wakes)?,
+            suspend: made.suspend,
         },
     })
 }
@@ -156,5 +164,6 @@ pub fn program(
             fresh: nodes(alloc, start)?,
             root: 0,
         },
+        wide: true,
     })
 }

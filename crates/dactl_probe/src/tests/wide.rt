@@ -30,7 +30,7 @@ fn boxed(alloc: Global, first: Pat, count: u32) -> Result<Pat, Memory> {
 }
 
 /// `F` over 15 boxes with three leaves each and one with two. The first leaf is the literal.
-fn pattern(alloc: Global, literal: i64) -> Result<Pat, Memory> {
+fn pattern(alloc: Global, literal: i128) -> Result<Pat, Memory> {
     let mut args = Items::new(alloc);
     args.push(boxed(alloc, Pat::Literal(literal), 3)?)?;
     for _ in 0..14 {
@@ -65,11 +65,12 @@ fn program(alloc: Global, groups: Groups) -> Result<Program, Memory> {
             symbol: F,
             group: group(groups, number),
             variables: 0,
-            pattern: pattern(alloc, number as i64)?,
+            pattern: pattern(alloc, i128::from(number))?,
             body: Body::Written {
                 fresh: Items::new(alloc),
                 moves: Items::new(alloc),
                 wakes: Items::new(alloc),
+                suspend: 0,
             },
         })?;
     }
@@ -77,6 +78,7 @@ fn program(alloc: Global, groups: Groups) -> Result<Program, Memory> {
         symbols: symbols(alloc)?,
         rules,
         start: start(alloc)?,
+        wide: false,
     })
 }
 
@@ -93,7 +95,7 @@ fn nodes_from(first: u32) -> [NodeId; 16]
 
 /// What is read of a node of a graph with `F` at node 0, boxes at the nodes 1 to 16, and integers from
 /// node 100 on, of which the first is the literal and the others are 0.
-fn reading(node: NodeId, literal: i64) -> Reading
+fn reading(node: NodeId, literal: i128) -> Reading
     ensures { result.node ≡ node }
 {
     let (label, count, first) = match node.number {
@@ -115,7 +117,7 @@ fn reading(node: NodeId, literal: i64) -> Reading
 }
 
 /// The attempt of a probe of node 0 in that graph, if 64 readings suffice.
-fn attempt(alloc: Global, deciders: &Deciders, literal: i64) -> Result<Option<Attempt>, Memory> {
+fn attempt(alloc: Global, deciders: &Deciders, literal: i128) -> Result<Option<Attempt>, Memory> {
     let room = Footprint::with_room(alloc, deciders.widest())?;
     let mut probe = Probe::start(deciders, id(0), room);
     for _ in 0..65 {
@@ -137,7 +139,7 @@ fn print_time(rt: &HostRuntime, what: &str, begun: Instant) -> Result<(), Fail> 
 }
 
 /// Whether the probe fires the rule of the literal, after readings of 64 nodes.
-fn fires(alloc: Global, deciders: &Deciders, literal: i64, rule: u32) -> Result<bool, Memory> {
+fn fires(alloc: Global, deciders: &Deciders, literal: i128, rule: u32) -> Result<bool, Memory> {
     Ok(match attempt(alloc, deciders, literal)? {
         Some(found) => {
             found.event == Event::Fire { node: id(0), rule }

@@ -1,4 +1,4 @@
-//! The program of the tests.
+//! The programs of the tests.
 
 use dactl_model::Memory;
 use dactl_model::arithmetic::arithmetic_rule;
@@ -33,15 +33,34 @@ fn node(alloc: Global, symbol: u32, arcs: &[FreshArc]) -> Result<FreshNode, Memo
     })
 }
 
-/// `F => *F`.
-fn rule(alloc: Global) -> Result<Rule, Memory> {
+/// What `F => *F` makes.
+fn renewed(alloc: Global) -> Result<Body, Memory> {
     let mut fresh = Items::new(alloc);
     fresh.push(node(alloc, F, &[])?)?;
     let root = Move {
         from: Left::Root,
         to: Mention::Fresh(0),
     };
-    Ok(Rule {
+    Ok(Body::Written {
+        fresh,
+        moves: Items::from_slice(alloc, &[root])?,
+        wakes: Items::new(alloc),
+        suspend: 0,
+    })
+}
+
+/// What `r:F -> #r` makes.
+fn suspended(alloc: Global) -> Body {
+    Body::Written {
+        fresh: Items::new(alloc),
+        moves: Items::new(alloc),
+        wakes: Items::new(alloc),
+        suspend: 1,
+    }
+}
+
+fn rule(alloc: Global, body: Body) -> Rule {
+    Rule {
         symbol: F,
         group: 5,
         variables: 0,
@@ -49,26 +68,22 @@ fn rule(alloc: Global) -> Result<Rule, Memory> {
             symbol: F,
             args: Items::new(alloc),
         },
-        body: Body::Written {
-            fresh,
-            moves: Items::from_slice(alloc, &[root])?,
-            wakes: Items::new(alloc),
-        },
-    })
+        body,
+    }
 }
 
-fn rules(alloc: Global) -> Result<Items<Rule>, Memory> {
+fn rules(alloc: Global, body: Body) -> Result<Items<Rule>, Memory> {
     let operations = [Op::Add, Op::Sub, Op::Mul, Op::Eq, Op::Lt];
     let mut all = Items::new(alloc);
     for (number, op) in operations.into_iter().enumerate() {
         all.push(arithmetic_rule(alloc, number as u32, op)?)?;
     }
-    all.push(rule(alloc)?)?;
+    all.push(rule(alloc, body))?;
     Ok(all)
 }
 
-/// The rules of the arithmetic, and as number 5 `F => *F`. The start is `*Cell[x], x:*F`.
-pub fn program(alloc: Global) -> Result<Program, Memory> {
+/// The rules of the arithmetic, and as number 5 one of `F`. The start is `*Cell[x], x:*F`.
+fn program_with(alloc: Global, body: Body) -> Result<Program, Memory> {
     let arc = FreshArc {
         to: Mention::Fresh(1),
         waits: false,
@@ -78,7 +93,18 @@ pub fn program(alloc: Global) -> Result<Program, Memory> {
     fresh.push(node(alloc, F, &[])?)?;
     Ok(Program {
         symbols: symbols(alloc)?,
-        rules: rules(alloc)?,
+        rules: rules(alloc, body)?,
         start: Start { fresh, root: 0 },
+        wide: false,
     })
+}
+
+/// The program with `F => *F`.
+pub fn program(alloc: Global) -> Result<Program, Memory> {
+    program_with(alloc, renewed(alloc)?)
+}
+
+/// The program with `r:F -> #r`.
+pub fn suspending(alloc: Global) -> Result<Program, Memory> {
+    program_with(alloc, suspended(alloc))
 }

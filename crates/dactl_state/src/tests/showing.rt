@@ -1,42 +1,33 @@
 //! Whether one reading shows an event at its node, for rules whose pattern is a symbol.
 
-ghost use Rattle.std.specs.Prelude.{◌≡◌, ◌<◌, ◌≤◌, ◌⊎◌, [], ◌∷◌, IsTrue, All, length, slice_get, Some};
+ghost use Rattle.std.specs.Prelude.{◌≡◌, ◌≤◌, ◌⊎◌, [], ◌∷◌, Bool, IsTrue, All};
 ghost use Rattle.dactl_model.specs.declared.graph.Event.TheVariants.{Fire, Note};
-ghost use Rattle.dactl_model.specs.Patterns.{has_symbol};
 ghost use Rattle.dactl_model.specs.RuleTold.{IsRuleYes, IsRuleNo, bindings_told, Shows};
 
-use dactl_model::graph::Label;
 use dactl_model::program::{Body, Pat, Program, Rule};
 use dactl_model::reading::Reading;
 
-fn is_symbol(label: Label, symbol: u32) -> bool
-    ensures { result ≡ has_symbol label symbol }
-{
-    match label {
-        Label::Symbol(other) => other == symbol,
-        Label::Integer(_) => false,
-    }
-}
-
 /// Whether the pattern is of another symbol.
 fn is_no(rule: &Rule, reading: &Reading) -> bool
-    ensures { IsTrue result → IsRuleNo (reading.now ∷ []) reading.now.node rule.now }
+    ensures { (wide : Bool) → IsTrue result →
+        IsRuleNo wide (reading.now ∷ []) reading.now.node rule.now }
 {
     match &rule.pattern {
-        Pat::Sym { symbol, .. } => !is_symbol(reading.label, *symbol),
+        Pat::Sym { symbol, .. } => !reading.label.has_symbol(*symbol),
         _ => false,
     }
 }
 
 /// Whether the pattern is the node's symbol, and neither of them has arguments.
 fn is_yes(rule: &Rule, reading: &Reading) -> bool
-    ensures yes { IsTrue result → IsRuleYes (reading.now ∷ []) reading.now.node rule.now }
+    ensures yes { (wide : Bool) → IsTrue result →
+        IsRuleYes wide (reading.now ∷ []) reading.now.node rule.now }
     ensures none { IsTrue result → bindings_told (reading.now ∷ []) reading.now.node rule.now ≡ [] }
 {
     let Pat::Sym { symbol, args } = &rule.pattern else {
         return false;
     };
-    is_symbol(reading.label, *symbol)
+    reading.label.has_symbol(*symbol)
         && args.is_empty()
         && reading.targets.count == 0
         && rule.variables == 0
@@ -45,15 +36,15 @@ fn is_yes(rule: &Rule, reading: &Reading) -> bool
 
 /// Whether the rule is of no earlier group, or its pattern is of another symbol.
 fn is_past(rule: &Rule, group: u32, reading: &Reading) -> bool
-    ensures { IsTrue result →
-        (group ≤ rule.now.group) ⊎ IsRuleNo (reading.now ∷ []) reading.now.node rule.now }
+    ensures { (wide : Bool) → IsTrue result →
+        (group ≤ rule.now.group) ⊎ IsRuleNo wide (reading.now ∷ []) reading.now.node rule.now }
 {
     rule.group >= group || is_no(rule, reading)
 }
 
 fn are_past(rules: &[Rule], group: u32, reading: &Reading) -> bool
-    ensures { IsTrue result → All
-        (λ rule. (group ≤ rule.group) ⊎ IsRuleNo (reading.now ∷ []) reading.now.node rule)
+    ensures { (wide : Bool) → IsTrue result → All
+        (λ rule. (group ≤ rule.group) ⊎ IsRuleNo wide (reading.now ∷ []) reading.now.node rule)
         rules.now }
 {
     for rule in rules {
@@ -62,13 +53,6 @@ fn are_past(rules: &[Rule], group: u32, reading: &Reading) -> bool
         }
     }
     true
-}
-
-fn rule_of(program: &Program, rule: u32) -> &Rule
-    requires { rule < length program.now.rules }
-    ensures { slice_get program.now.rules rule ≡ Some result.now }
-{
-    &program.rules.as_slice()[rule as usize]
 }
 
 /// Whether the reading shows that the rule may fire at its node.
@@ -80,7 +64,7 @@ pub fn shows_fire(program: &Program, reading: &Reading, rule: u32) -> bool
     if rule as usize >= rules.len() {
         return false;
     }
-    let chosen = rule_of(program, rule);
+    let chosen = program.rule(rule);
     is_yes(chosen, reading) && are_past(rules, chosen.group, reading)
 }
 

@@ -1,4 +1,4 @@
-use Rattle.std.proofs.Common.{◌≡◌, false, refl, sym, ◌∙◌, Result, Ok, Err}
+use Rattle.std.proofs.Common.{false, refl, sym, ◌∙◌, Result, Ok, Err}
 use Rattle.std.specs.Prelude.{IsTrue, OnOk}
 use Rattle.std.specs.Result.{is_ok}
 use Rattle.std.proofs.lemmas.Bool.{both_ways}

@@ -1,6 +1,5 @@
-use Rattle.std.proofs.Common.{Option, Some, map, sym, ap, ◌∙◌, subst}
+use Rattle.std.proofs.Common.{Some, map, sym, ap, ◌∙◌, subst}
 use Rattle.std.specs.Prelude.{Contains}
-use Rattle.dactl_base.specs.declared.refusal.Refusal.{Refusal}
 use Rattle.dactl_symbols.specs.Least.{least_by, TellsLeast}
 use Rattle.dactl_patterns.specs.Occurring.{seen}
 use Rattle.dactl_patterns.specs.TreeFaults.{faults_with}

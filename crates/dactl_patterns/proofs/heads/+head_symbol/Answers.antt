@@ -1,10 +1,10 @@
-use Rattle.std.proofs.Common.{◌≡◌, ℕ, Bool, true, false, List, map, Option, None, sym, ap, ◌∙◌, if◌then◌else◌}
+use Rattle.std.proofs.Common.{◌≡◌, Bool, true, false, map, None, sym, ap, ◌∙◌, if◌then◌else◌}
 use Rattle.std.proofs.lemmas.Result.{IfOk-weaker}
 use Rattle.dactl_model.specs.Binders.{head}
-use Rattle.dactl_syntax.specs.declared.tree.PatternTree.{PatternTree}
-use Rattle.dactl_syntax.specs.Expansion.{has_plus, expansion_by}
-use Rattle.dactl_syntax.specs.Sight.{sees}
-use Rattle.dactl_patterns.proofs.HeadLayers.{head_any, head_int, head_integer, head_variable, head_symbol, head_binder, head_of_chain}
+use Rattle.dactl_meaning.specs.declared.tree.PatternTree.{PatternTree}
+use Rattle.dactl_meaning.specs.Expansion.{has_plus, expansion_by}
+use Rattle.dactl_meaning.specs.Sight.{sees}
+use Rattle.dactl_patterns.proofs.HeadLayers.{head_any, head_int, head_char, head_integer, head_letter, head_variable, head_symbol, head_binder, head_of_chain}
 use Rattle.dactl_patterns.proofs.heads.+head_symbol.Goals as goal
 
 pub returns-in-Any : goal.returns-in-Any
@@ -17,10 +17,20 @@ returns-in-Int t c = λ named variables right.
     let look = sees c.args.patterns.now.text.now c.args.owner in
     sym (ap (λ (z : PatternTree). head (expansion_by look named variables z)) c.in-Int.is ∙ head_int look named variables)
 
+pub returns-in-Char : goal.returns-in-Char
+returns-in-Char t c = λ named variables right.
+    let look = sees c.args.patterns.now.text.now c.args.owner in
+    sym (ap (λ (z : PatternTree). head (expansion_by look named variables z)) c.in-Char.is ∙ head_char look named variables)
+
 pub returns-in-Integer : goal.returns-in-Integer
 returns-in-Integer t c = λ named variables right.
     let look = sees c.args.patterns.now.text.now c.args.owner in
     sym (ap (λ (z : PatternTree). head (expansion_by look named variables z)) c.in-Integer.is ∙ head_integer look named variables c.in-Integer.value)
+
+pub returns-in-Letter : goal.returns-in-Letter
+returns-in-Letter t c = λ named variables right.
+    let look = sees c.args.patterns.now.text.now c.args.owner in
+    sym (ap (λ (z : PatternTree). head (expansion_by look named variables z)) c.in-Letter.is ∙ head_letter look named variables c.in-Letter.value)
 
 pub returns-in-Variable : goal.returns-in-Variable
 returns-in-Variable t c = λ named variables right.

@@ -1,7 +1,7 @@
 use Rattle.std.proofs.Common.{Option, sym, ap, ◌∙◌}
 use Rattle.dactl_model.specs.Binders.{head}
-use Rattle.dactl_syntax.specs.Expansion as expansion
-use Rattle.dactl_syntax.specs.Sight.{Seen}
+use Rattle.dactl_meaning.specs.Expansion as expansion
+use Rattle.dactl_meaning.specs.Sight.{Seen}
 use Rattle.dactl_patterns.proofs.heads.at_name.Goals as goal
 
 pub returns-in-Some : goal.returns-in-Some

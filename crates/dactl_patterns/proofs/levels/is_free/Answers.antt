@@ -1,7 +1,7 @@
 use Rattle.std.proofs.Common.{◌≡◌, List, sym, ◌∙◌, subst}
 use Rattle.std.specs.Prelude.{Contains}
 use Rattle.std.proofs.lemmas.List.Elements.{All-contains}
-use Rattle.dactl_syntax.specs.Meaning.{NamedPattern}
+use Rattle.dactl_meaning.specs.Meaning.{NamedPattern}
 use Rattle.dactl_patterns.specs.Levels.{level_in}
 use Rattle.dactl_patterns.proofs.Descending.{is_free}
 use Rattle.dactl_patterns.proofs.levels.is_free.Goals as goal

@@ -1,8 +1,8 @@
 use Rattle.std.proofs.Common.{suc, Option, subst}
-use Rattle.dactl_syntax.specs.declared.tree.PatternTree.{PatternTree}
-use Rattle.dactl_syntax.specs.Expansion.{expansion_of, named_expansion}
-use Rattle.dactl_syntax.specs.Meaning.{NamedPattern}
-use Rattle.dactl_syntax.specs.Sight.{sees}
+use Rattle.dactl_meaning.specs.declared.tree.PatternTree.{PatternTree}
+use Rattle.dactl_meaning.specs.Expansion.{expansion_of, named_expansion}
+use Rattle.dactl_meaning.specs.Meaning.{NamedPattern}
+use Rattle.dactl_meaning.specs.Sight.{sees}
 use Rattle.dactl_patterns.specs.Table.{IsKnown}
 use Rattle.dactl_patterns.proofs.Tables.{table_more}
 use Rattle.dactl_patterns.proofs.named.enter.Goals as goal

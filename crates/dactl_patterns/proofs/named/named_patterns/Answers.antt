@@ -1,8 +1,7 @@
-use Rattle.std.proofs.Common.{◌≡◌, ℕ, length, sym, ap, ◌∙◌, subst, arith}
+use Rattle.std.proofs.Common.{◌≡◌, length, sym, ap, ◌∙◌, arith}
 use Rattle.std.specs.Borrow.{Bor}
-use Rattle.dactl_syntax.specs.declared.tree.Text.{Text}
-use Rattle.dactl_syntax.specs.Expansion.{named_count}
-use Rattle.dactl_symbols.specs.Scoping.{IsScopesOf}
+use Rattle.dactl_meaning.specs.declared.tree.Text.{Text}
+use Rattle.dactl_meaning.specs.Expansion.{named_count}
 use Rattle.dactl_patterns.proofs.named.named_patterns.Goals as goal
 
 pub returns-clause-named : goal.returns-clause-named

@@ -1,6 +1,6 @@
 use Rattle.std.proofs.Common.{List, Option, length, sym, ap, ◌∙◌, subst}
 use Rattle.dactl_base.specs.declared.refusal.Refusal.{Refusal}
-use Rattle.dactl_syntax.specs.Meaning.{CycleFault}
+use Rattle.dactl_meaning.specs.Meaning.{CycleFault}
 use Rattle.dactl_symbols.specs.Least.{TellsLeast}
 use Rattle.dactl_patterns.specs.declared.declarations.Declared.{Declared}
 use Rattle.dactl_patterns.specs.Cycles.{SomeCycle}

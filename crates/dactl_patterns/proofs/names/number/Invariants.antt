@@ -1,5 +1,5 @@
 use Rattle.std.proofs.Common.{◌≡◌, ◌+◌, drop}
-use Rattle.dactl_syntax.specs.Expansion.{number_in}
+use Rattle.dactl_meaning.specs.Expansion.{number_in}
 use Rattle.dactl_patterns.proofs.names.number.Given as goal
 
 -- those so far are other names

@@ -1,6 +1,6 @@
 use Rattle.std.proofs.Common.{◌≡◌, ◌++◌, map, take}
 use Rattle.std.specs.List.{flat_map}
-use Rattle.dactl_syntax.specs.Expansion as spec
+use Rattle.dactl_meaning.specs.Expansion as spec
 use Rattle.dactl_patterns.specs.Occurring.{seen, link_occurrences}
 use Rattle.dactl_patterns.proofs.occurrences.+occurrences.Given as goal
 

@@ -1,5 +1,5 @@
 use Rattle.std.proofs.Common.{◌≡◌, drop}
-use Rattle.dactl_syntax.specs.Expansion.{has_plus}
+use Rattle.dactl_meaning.specs.Expansion.{has_plus}
 use Rattle.dactl_patterns.proofs.occurrences.has_plus.Given as goal
 
 -- no `+` so far, so the rest tells

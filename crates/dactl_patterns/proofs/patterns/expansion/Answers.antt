@@ -1,8 +1,8 @@
-use Rattle.std.proofs.Common.{◌≡◌, ℕ, ◌<◌, ◌≤◌, Option, Some, sym, ap, ◌∙◌, subst, arith}
+use Rattle.std.proofs.Common.{◌≡◌, ◌≤◌, Option, Some, sym, ap, ◌∙◌, subst, arith}
 use Rattle.std.specs.Prelude.{IfSome}
 use Rattle.std.specs.Option.{option_copied}
-use Rattle.dactl_syntax.specs.Sight.{sees}
-use Rattle.dactl_syntax.specs.Expansion.{named_count, named_expansion, expansion_by, pattern_nodes}
+use Rattle.dactl_meaning.specs.Sight.{sees}
+use Rattle.dactl_meaning.specs.Expansion.{named_count, named_expansion, expansion_by, pattern_nodes}
 use Rattle.dactl_patterns.specs.declared.expanding.Small.{Small}
 use Rattle.dactl_patterns.specs.Table.{IsWithin}
 use Rattle.dactl_patterns.proofs.Faultless.{counted_is, counted_few, many_wide, large_wide, small_narrow}

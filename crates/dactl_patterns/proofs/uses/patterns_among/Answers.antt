@@ -1,4 +1,4 @@
-use Rattle.dactl_syntax.specs.Sight.{sees}
+use Rattle.dactl_meaning.specs.Sight.{sees}
 use Rattle.dactl_patterns.specs.Cycling.{seen_pattern}
 use Rattle.dactl_patterns.proofs.Growing.{sifts}
 use Rattle.dactl_patterns.proofs.uses.patterns_among.Goals as goal

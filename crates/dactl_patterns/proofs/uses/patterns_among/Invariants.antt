@@ -1,6 +1,6 @@
 use Rattle.std.proofs.Common.{◌≡◌, take}
 use Rattle.std.specs.List.{filter_map}
-use Rattle.dactl_syntax.specs.Sight.{sees}
+use Rattle.dactl_meaning.specs.Sight.{sees}
 use Rattle.dactl_patterns.specs.Naming.{told}
 use Rattle.dactl_patterns.specs.Cycling.{seen_pattern}
 use Rattle.dactl_patterns.proofs.uses.patterns_among.Given as goal

@@ -2,8 +2,8 @@ use Rattle.std.proofs.Common.{arith}
 use Rattle.dactl_plain.proofs.Replays.{replayed_well_formed, replayed_more, replayed_none}
 use Rattle.dactl_plain.proofs.replaying.replay.Goals as goal
 
-pub after_event-requires-clause-graph : goal.after_event-requires-clause-graph
-after_event-requires-clause-graph c = replayed_well_formed _ _ _ _ c.requires c.loop-entry.invariant
+pub step-requires-clause-graph : goal.step-requires-clause-graph
+step-requires-clause-graph c = replayed_well_formed _ _ _ _ c.requires c.loop-entry.invariant
 
 pub returns-in-None : goal.returns-in-None
 returns-in-None c =

@@ -17,8 +17,8 @@ returns-then-not-is_consistent c = conflict_lost c.args.readings.now c.args.node
 
 pub returns-then-has_result : goal.returns-then-has_result
 returns-then-has_result c =
-    matching c.args.readings.now c.args.node c.args.rule.now (sym c.in-Yes.is ∙ c.look.ensures) (sym c.if-not-is_consistent.false ∙ c.is_consistent-in-Yes.ensures) (c.has_result.ensures.0 c.if-has_result.true)
+    matching c.args.wide c.args.readings.now c.args.node c.args.rule.now (sym c.in-Yes.is ∙ c.look.ensures) (sym c.if-not-is_consistent.false ∙ c.is_consistent-in-Yes.ensures) (c.has_result.ensures.0 c.if-has_result.true)
 
 pub returns-else-has_result : goal.returns-else-has_result
 returns-else-has_result c =
-    without_result c.args.readings.now c.args.node c.args.rule.now (sym c.in-Yes.is ∙ c.look.ensures) (λ has. let clash = sym c.if-has_result.false ∙ c.has_result.ensures.1 has in cc)
+    without_result c.args.wide c.args.readings.now c.args.node c.args.rule.now (sym c.in-Yes.is ∙ c.look.ensures) (λ has. let clash = sym c.if-has_result.false ∙ c.has_result.ensures.1 has in cc)

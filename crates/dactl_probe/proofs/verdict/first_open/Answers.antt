@@ -8,7 +8,7 @@ use Rattle.dactl_probe.proofs.verdict.first_open.Goals as goal
 pub loop-place-init : goal.loop-place-init
 loop-place-init c = record {
   lost = c.requires.lost;
-  none = taken_no c.args.deciders.now.program.rules c.args.readings.now c.args.node c.args.lost.now c.requires.lost c.rules-numbers.result.now _ c.among-place.ensures.lost;
+  none = taken_no c.args.deciders.now.program c.args.readings.now c.args.node c.args.lost.now c.requires.lost c.rules-numbers.result.now _ c.among-place.ensures.lost;
   passed = λ e. c.among-place.ensures.lost;
 }
 
@@ -26,18 +26,19 @@ loop-place-preserved c =
 pub returns-in-Unknown-clause-open : goal.returns-in-Unknown-clause-open
 returns-in-Unknown-clause-open c =
     let numbers = c.rules-numbers.result.now in (
-      no_before _ _ _ _ numbers c.rules-numbers.ensures _ 0 c.loop-place-test.true c.loop-place.invariant.none,
-      open_number _ _ c.args.readings.now c.args.node numbers c.rules-numbers.ensures _ 0 _ c.loop-place-test.true c.in-Unknown.ensures,
+      no_before c.args.deciders.now.program _ _ _ numbers c.rules-numbers.ensures _ 0 c.loop-place-test.true c.loop-place.invariant.none,
+      open_number c.args.deciders.now.program _ c.args.readings.now c.args.node numbers c.rules-numbers.ensures _ 0 _ c.loop-place-test.true c.in-Unknown.ensures,
     )
 
 pub returns-in-Yes-clause-open : goal.returns-in-Yes-clause-open
 returns-in-Yes-clause-open c =
     let numbers = c.rules-numbers.result.now in (
-      no_before _ _ _ _ numbers c.rules-numbers.ensures _ 0 c.loop-place-test.true c.loop-place.invariant.none,
-      open_number _ _ c.args.readings.now c.args.node numbers c.rules-numbers.ensures _ 0 _ c.loop-place-test.true c.in-Yes.ensures,
+      no_before c.args.deciders.now.program _ _ _ numbers c.rules-numbers.ensures _ 0 c.loop-place-test.true c.loop-place.invariant.none,
+      open_number c.args.deciders.now.program _ c.args.readings.now c.args.node numbers c.rules-numbers.ensures _ 0 _ c.loop-place-test.true c.in-Yes.ensures,
     )
 
 pub returns-clause-open : goal.returns-clause-open
 returns-clause-open c =
     let numbers = c.rules-numbers.result.now in
-    all_no _ _ _ _ numbers c.rules-numbers.ensures (subst (λ xs. All (IsNumberNo c.args.deciders.now.program.rules c.args.readings.now c.args.node) xs) (take_all _ numbers c.loop-place-test.false) c.loop-place.invariant.none)
+    let p = c.args.deciders.now.program in
+    all_no p _ _ _ numbers c.rules-numbers.ensures (subst (λ xs. All (IsNumberNo p c.args.readings.now c.args.node) xs) (take_all _ numbers c.loop-place-test.false) c.loop-place.invariant.none)

@@ -7,5 +7,5 @@ use Rattle.dactl_probe.proofs.verdict.yes_behind.Given as goal
 abbrev pub invariant-loop-place : goal.invariant-loop-place
 invariant-loop-place l = record {
   lost : AreLost l.deciders.program.rules l.readings l.node l.lost;
-  none : All (IsNotYes l.deciders.program.rules l.group l.readings l.node) (take l.place l.numbers);
+  none : All (IsNotYes l.deciders.program l.group l.readings l.node) (take l.place l.numbers);
 }

@@ -1,7 +1,7 @@
 use Rattle.std.proofs.Common.{◌∙◌, List, Contains, map, ap, sym, refl, subst}
 use Rattle.std.specs.List.{flat_map}
-use Rattle.dactl_syntax.specs.Declarations.{Placed}
-use Rattle.dactl_syntax.specs.Meaning.{named_faults}
+use Rattle.dactl_meaning.specs.Declarations.{Placed}
+use Rattle.dactl_meaning.specs.Meaning.{named_faults}
 use Rattle.dactl_symbols.specs.Least.{sooner, TellsLeast}
 use Rattle.dactl_symbols.specs.Scoping.{seen_in}
 use Rattle.dactl_rules.specs.Initials.{initials_in, AreRead}

@@ -1,7 +1,7 @@
 use Rattle.std.proofs.Common.{map, take, ap, subst, Contains}
 use Rattle.std.specs.List.{flat_map}
 use Rattle.std.proofs.lemmas.List.{take_all}
-use Rattle.dactl_syntax.specs.Meaning.{named_faults}
+use Rattle.dactl_meaning.specs.Meaning.{named_faults}
 use Rattle.dactl_symbols.specs.Least.{TellsLeast}
 use Rattle.dactl_rules.specs.Listing.{placed}
 use Rattle.dactl_rules.proofs.WholePrograms.{named_more}

@@ -1,6 +1,6 @@
 use Rattle.std.proofs.Common.{ap, sym, subst, Contains}
 use Rattle.std.specs.Result.{IfOk}
-use Rattle.dactl_syntax.specs.Meaning.{named_faults}
+use Rattle.dactl_meaning.specs.Meaning.{named_faults}
 use Rattle.dactl_symbols.specs.Least.{TellsLeast}
 use Rattle.dactl_rules.proofs.compiling.named_fault.Goals as goal
 

@@ -1,10 +1,10 @@
-use Rattle.std.proofs.Common.{◌≡◌, ◌∙◌, ◌<◌, ◌⊎◌, ◌++◌, ℕ, List, Option, None, map, ap, sym, subst, inl, inr}
+use Rattle.std.proofs.Common.{◌≡◌, ◌∙◌, ◌<◌, ◌⊎◌, ◌++◌, ℕ, List, Option, None, map, refl, ap, sym, subst, inl, inr}
 use Rattle.std.proofs.lemmas.Result.{err_from_is_err_and}
 use Rattle.dactl_model.specs.Programs.{IsValid}
 use Rattle.std.specs.Borrow.{Bor}
-use Rattle.dactl_syntax.specs.declared.tree.Text.{Text}
-use Rattle.dactl_syntax.specs.Declarations.{Placed, items}
-use Rattle.dactl_syntax.specs.Meaning.{RuleFault}
+use Rattle.dactl_meaning.specs.declared.tree.Text.{Text}
+use Rattle.dactl_meaning.specs.Declarations.{Placed, items}
+use Rattle.dactl_meaning.specs.Meaning.{RuleFault, is_wide}
 use Rattle.dactl_symbols.specs.Least.{TellsLeast}
 use Rattle.dactl_rules.specs.Drafts.{IsDraft}
 use Rattle.dactl_rules.specs.Listing.{placed}
@@ -31,7 +31,7 @@ pub returns-clause-meaning : goal.returns-clause-meaning
 returns-clause-meaning c =
     let drafted = subst (λ (t : Bor Text). IsDraft t.now c.in_ok-written.field-0) c.in_ok-patterns.ensures.text c.in_ok-written.ensures in
     c.in_ok-assemble.ensures
-    ∙ program_is c.args.text.now c.args.scopes.now c.requires c.in_ok-written.field-0.rules.items (map placed c.as_slice-2.result.now)
+    ∙ program_is c.args.text.now c.args.scopes.now c.requires (is_wide c.args.text.now) c.in_ok-written.field-0.rules.items (map placed c.as_slice-2.result.now) refl
     (drafted.rules c.in_default.is) (ap (map placed) c.as_slice-2.ensures.value ∙ c.in_ok-items.ensures)
 
 pub returns-clause-valid : goal.returns-clause-valid

@@ -1,6 +1,6 @@
 use Rattle.std.proofs.Common.{map, take}
 use Rattle.dactl_base.specs.declared.refusal.Kind.TheVariants as kinds
-use Rattle.dactl_syntax.specs.Contractum.{given_names}
+use Rattle.dactl_meaning.specs.Contractum.{given_names}
 use Rattle.dactl_rules.specs.Drawing.{sketch_of}
 use Rattle.dactl_rules.proofs.Twice.{AreTwice}
 use Rattle.dactl_rules.proofs.faults.named_twice.Given as goal

@@ -1,6 +1,6 @@
 use Rattle.std.proofs.Common.{ap, sym, ◌∙◌, subst, [], ◌∷◌}
 use Rattle.std.specs.Result.{IfOk}
-use Rattle.dactl_syntax.specs.Meaning.{item_initial}
+use Rattle.dactl_meaning.specs.Meaning.{item_initial}
 use Rattle.dactl_symbols.specs.Scoping.{seen_in}
 use Rattle.dactl_rules.specs.Initials.{AreRead}
 use Rattle.dactl_rules.proofs.WholePrograms.{read_none, no_initial}

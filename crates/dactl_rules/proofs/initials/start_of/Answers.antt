@@ -1,5 +1,5 @@
 use Rattle.std.proofs.Common.{map, [], refl, ◌∙◌}
-use Rattle.dactl_syntax.specs.Contractum.{fresh_of, made_by}
+use Rattle.dactl_meaning.specs.Contractum.{fresh_of, made_by}
 use Rattle.dactl_symbols.specs.Scoping.{seen_in}
 use Rattle.dactl_rules.specs.Initials.{root_in}
 use Rattle.dactl_rules.proofs.WholePrograms.{root_told}

@@ -1,5 +1,5 @@
 use Rattle.std.proofs.Common.{◌≡◌, take}
-use Rattle.dactl_syntax.specs.RuleFaults.{lefts_of}
+use Rattle.dactl_meaning.specs.RuleFaults.{lefts_of}
 use Rattle.dactl_rules.specs.Lefts.{words}
 use Rattle.dactl_rules.proofs.lefts.lefts.Given as goal
 

@@ -2,8 +2,8 @@ use Rattle.std.proofs.Common.{ℕ, Bool, ◌++◌, ap, ◌∙◌}
 use Rattle.std.specs.Borrow.{Bor}
 use Rattle.dactl_base.specs.declared.refusal.Kind.TheVariants as kinds
 use Rattle.dactl_model.specs.declared.program.Class.TheVariants as classes
-use Rattle.dactl_syntax.specs.declared.tree.Name.{Name}
-use Rattle.dactl_syntax.specs.RuleFaults.{is_class}
+use Rattle.dactl_meaning.specs.declared.tree.Name.{Name}
+use Rattle.dactl_meaning.specs.RuleFaults.{is_class}
 use Rattle.dactl_symbols.specs.Scoping.{class_in}
 use Rattle.dactl_rules.specs.Told.{fault_at}
 use Rattle.dactl_rules.specs.Lefts.{is_fixed, left_fixed}

@@ -1,7 +1,7 @@
 use Rattle.std.proofs.Common.{◌≡◌, ◌++◌, take}
 use Rattle.std.specs.List.{flat_map}
 use Rattle.dactl_model.specs.declared.program.Class.TheVariants as classes
-use Rattle.dactl_syntax.specs.RuleFaults.{is_class}
+use Rattle.dactl_meaning.specs.RuleFaults.{is_class}
 use Rattle.dactl_symbols.specs.Scoping.{class_in}
 use Rattle.dactl_rules.specs.Lefts.{words, left_fixed}
 use Rattle.dactl_rules.proofs.lefts.not_overwritable.Given as goal

@@ -1,7 +1,7 @@
 use Rattle.std.proofs.Common.{take}
 use Rattle.std.specs.List.{filter}
 use Rattle.dactl_base.specs.declared.refusal.Kind.TheVariants as kinds
-use Rattle.dactl_syntax.specs.Expansion.{is_among}
+use Rattle.dactl_meaning.specs.Expansion.{is_among}
 use Rattle.dactl_rules.specs.Lefts.{words}
 use Rattle.dactl_rules.proofs.Twice.{AreTwice}
 use Rattle.dactl_rules.proofs.lefts.redirected_twice.Given as goal

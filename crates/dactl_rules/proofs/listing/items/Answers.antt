@@ -1,7 +1,7 @@
 use Rattle.std.proofs.Common.{ap, ◌∙◌, ◌++◌, map}
 use Rattle.std.specs.List.{enumerate_from, flat_map}
 use Rattle.dactl_symbols.proofs.Joined.{all_numbered}
-use Rattle.dactl_syntax.specs.Declarations.{items_of}
+use Rattle.dactl_meaning.specs.Declarations.{items_of}
 use Rattle.dactl_rules.specs.Listing.{placed, placed_in}
 use Rattle.dactl_rules.proofs.Listings.{flat_numbered_more}
 use Rattle.dactl_rules.proofs.listing.items.Goals as goal

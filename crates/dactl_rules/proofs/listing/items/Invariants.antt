@@ -1,6 +1,6 @@
 use Rattle.std.proofs.Common.{◌≡◌, map, take}
 use Rattle.std.specs.List.{enumerate_from, flat_map}
-use Rattle.dactl_syntax.specs.Declarations.{items_of}
+use Rattle.dactl_meaning.specs.Declarations.{items_of}
 use Rattle.dactl_rules.specs.Listing.{placed}
 use Rattle.dactl_rules.proofs.listing.items.Given as goal
 

@@ -1,6 +1,6 @@
 use Rattle.std.proofs.Common.{Bool, ◌&&◌, Some, None, if◌then◌else◌, ap, sym, ◌∙◌}
-use Rattle.dactl_syntax.specs.Expansion.{is_among, number_in}
-use Rattle.dactl_syntax.specs.Contractum.{has_star}
+use Rattle.dactl_meaning.specs.Expansion.{is_among, number_in}
+use Rattle.dactl_meaning.specs.Contractum.{has_star}
 use Rattle.dactl_rules.specs.Numbers.{variable_number}
 use Rattle.dactl_rules.proofs.Meanings.{wakes_is}
 use Rattle.dactl_rules.proofs.meaning.woken.Goals as goal

@@ -1,6 +1,6 @@
 use Rattle.std.proofs.Common.{◌≡◌, false, take}
 use Rattle.dactl_model.specs.declared.program.Class.TheVariants as classes
-use Rattle.dactl_syntax.specs.RuleFaults.{is_class}
+use Rattle.dactl_meaning.specs.RuleFaults.{is_class}
 use Rattle.dactl_symbols.specs.Scoping.{class_in}
 use Rattle.dactl_rules.specs.Writing.{some_give}
 use Rattle.dactl_rules.proofs.overwriting.+overwritable.Given as goal

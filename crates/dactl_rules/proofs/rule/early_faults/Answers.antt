@@ -3,9 +3,9 @@ use Rattle.std.specs.List.{filter, flat_map}
 use Rattle.std.specs.Borrow.{Bor}
 use Rattle.dactl_base.specs.declared.refusal.Kind.TheVariants as kinds
 use Rattle.dactl_base.specs.declared.refusal.Refusal.{Refusal}
-use Rattle.dactl_syntax.specs.declared.tree.Name.{Name}
-use Rattle.dactl_syntax.specs.Expansion.{is_among}
-use Rattle.dactl_syntax.specs.RuleFaults.{each_at, again, place_of, head_is, is_class}
+use Rattle.dactl_meaning.specs.declared.tree.Name.{Name}
+use Rattle.dactl_meaning.specs.Expansion.{is_among}
+use Rattle.dactl_meaning.specs.RuleFaults.{each_at, again, place_of, head_is, is_class}
 use Rattle.dactl_rules.specs.Lefts.{words, left_unbound}
 use Rattle.dactl_rules.specs.Told.{fault_at, drawn_faults}
 use Rattle.dactl_rules.specs.Drawing.{made_in, mentioned_in}
@@ -26,7 +26,7 @@ returns c =
     ] in
     let twice : List (List ℕ) → List (Bor Name) → List Refusal = λ names ls. each_at kinds.RedirectedTwice (map place_of (again names (filter passes (words ls)))) in
     let a : List Refusal = fault_at (not (head_is (λ f. is_class classes.Rewritable (class_in c.args.scopes.now c.args.owner f)) parts.head)) kinds.RootNotRewritable c.args.tree.now.place in
-    let b : List Refusal = drawn_faults (seen_in c.args.scopes.now c.args.owner) parts.variables (made_in parts.contractum.drawing) (mentioned_in parts.contractum.drawing) in
+    let b : List Refusal = drawn_faults (seen_in c.args.scopes.now c.args.owner) parts.variables parts.suspendable (made_in parts.contractum.drawing) (mentioned_in parts.contractum.drawing) in
     let unbound : List (Bor Name) → List Refusal = λ ls. flat_map (left_unbound parts.variables) (words ls) in
     let headless : c.fault_at.new.faults.items ≡ a =
     c.in_ok-fault_at.ensures ∙ ap (λ (z : List Refusal). z ++ fault_at (not c.has_rewritable_head-headless.result) kinds.RootNotRewritable c.args.tree.now.place) c.new-faults.ensures.items

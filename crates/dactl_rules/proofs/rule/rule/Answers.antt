@@ -3,10 +3,10 @@ use Rattle.std.proofs.lemmas.Result.{IfOk-weaker, err_from_is_err_and}
 use Rattle.std.specs.Borrow.{Bor}
 use Rattle.dactl_base.specs.declared.refusal.Refusal.{Refusal}
 use Rattle.dactl_model.specs.declared.program.Pat.{Pat}
-use Rattle.dactl_syntax.specs.declared.tree.Name.{Name}
-use Rattle.dactl_syntax.specs.Contractum.{Sketch}
-use Rattle.dactl_syntax.specs.Expansion.{pattern_expansion}
-use Rattle.dactl_syntax.specs.RuleFaults.{pattern_faults}
+use Rattle.dactl_meaning.specs.declared.tree.Name.{Name}
+use Rattle.dactl_meaning.specs.Contractum.{Sketch}
+use Rattle.dactl_meaning.specs.Expansion.{pattern_expansion}
+use Rattle.dactl_meaning.specs.RuleFaults.{pattern_faults}
 use Rattle.dactl_symbols.specs.Least.{TellsLeast}
 use Rattle.dactl_symbols.proofs.Sooner.{tells-sooner}
 use Rattle.dactl_patterns.specs.Expanded.{IsExpansion}

@@ -4,12 +4,12 @@ use Rattle.dactl_arcs.specs.Pool.{LeadsTo, arcs_into, rest_of_walk}
 use Rattle.dactl_store.proofs.Notified.{owner_below, woken_room, wakes_passive, notifying_more, notifying_ends, woken_ends}
 use Rattle.dactl_store.proofs.notify.notify_owners.Goals as goal
 
-pub follow-requires-clause-room : goal.follow-requires-clause-room
-follow-requires-clause-room c = λ wakes.
+pub notify_owner-requires-clause-room : goal.notify_owner-requires-clause-room
+notify_owner-requires-clause-room c = λ wakes.
     let is = c.loop-at.invariant.notifying in
     let old_owner = owner_below c.args.nodes.now.records c.args.arcs.now.arcs c.in-Some.arc c.arc.result c.requires.owners c.arc.ensures in
     let owner : c.arc.result.owner < length c.loop-at.nodes.records = omega (arith, old_owner, is.long) in
-    let room = woken_room _ _ _ c.args.nodes.now c.loop-at.nodes c.loop-at.woken.list c.arc.result.owner is owner (wakes_passive c.arc.result c.loop-at.nodes.records wakes) in
+    let room = woken_room _ _ _ c.args.nodes.now c.loop-at.nodes c.loop-at.woken.list c.arc.result.owner is owner (wakes_passive c.arc.result.owner c.loop-at.nodes.records wakes) in
     omega (arith, room, is.long, c.loop-at.invariant.list_room, c.requires.room)
 
 pub next_into-at-requires : goal.next_into-at-requires
@@ -29,9 +29,9 @@ loop-at-preserved c =
     let owner : c.arc.result.owner < length c.loop-at.nodes.records = omega (arith, old_owner, is.long) in
     record {
       leads = subst (λ t. IfSome c.next_into-at.result (LeadsTo pool t)) here.1 c.next_into-at.ensures.leads;
-      notifying = notifying_more pool.arcs (arcs_into pool c.args.target) _ _ c.in-Some.arc c.arc.result c.args.nodes.now c.loop-at.nodes c.follow.new.nodes c.loop-at.woken.list c.follow.new.woken.list is rest c.arc.ensures owner
-          c.follow.ensures.records c.follow.ensures.list c.follow.ensures.room;
-      list_room = c.follow.ensures.list_room ∙ c.loop-at.invariant.list_room;
+      notifying = notifying_more pool.arcs (arcs_into pool c.args.target) _ _ c.in-Some.arc c.arc.result c.args.nodes.now c.loop-at.nodes c.notify_owner.new.nodes c.loop-at.woken.list c.notify_owner.new.woken.list is rest c.arc.ensures owner
+          c.notify_owner.ensures.records c.notify_owner.ensures.list c.notify_owner.ensures.room;
+      list_room = c.notify_owner.ensures.list_room ∙ c.loop-at.invariant.list_room;
     }
 
 pub returns-clause-notified : goal.returns-clause-notified

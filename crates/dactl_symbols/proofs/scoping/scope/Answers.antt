@@ -1,5 +1,5 @@
 use Rattle.std.proofs.Common.{subst}
-use Rattle.dactl_syntax.specs.ScopeFaults.{ScopeFault}
+use Rattle.dactl_meaning.specs.ScopeFaults.{ScopeFault}
 use Rattle.dactl_symbols.specs.Least.{TellsLeast}
 use Rattle.dactl_symbols.proofs.Whole.{tells-all, scopes-all}
 use Rattle.dactl_symbols.proofs.scoping.scope.Goals as goal

@@ -1,5 +1,5 @@
 use Rattle.std.proofs.Common.{◌≡◌, ◌++◌, take, map}
-use Rattle.dactl_syntax.specs.Declarations.{Written, AsSymbol}
+use Rattle.dactl_meaning.specs.Declarations.{Written, AsSymbol}
 use Rattle.dactl_symbols.specs.Declaring.{declaration_of}
 use Rattle.dactl_symbols.proofs.survey.list_symbols.Given as goal
 

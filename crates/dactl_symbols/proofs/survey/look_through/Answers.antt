@@ -1,6 +1,6 @@
 use Rattle.std.proofs.Common.{ap, ◌∙◌}
 use Rattle.std.specs.List.{enumerate_from}
-use Rattle.dactl_syntax.specs.Declarations.{built_in_names}
+use Rattle.dactl_meaning.specs.Declarations.{built_in_names}
 use Rattle.dactl_symbols.specs.Finds.{Finds, finds_of, no_finds, joined, joined_all, module_finds}
 use Rattle.dactl_symbols.proofs.Joined.{joined_numbered-more, all_numbered}
 use Rattle.dactl_symbols.proofs.survey.look_through.Goals as goal

@@ -1,8 +1,8 @@
 use Rattle.std.proofs.Common.{sym, ap, ◌∙◌}
 use Rattle.std.specs.List.{flat_map}
-use Rattle.dactl_syntax.specs.declared.tree.Sign.{Sign}
-use Rattle.dactl_syntax.specs.declared.tree.PatternTree.{PatternTree}
-use Rattle.dactl_syntax.specs.Uses.{pattern_uses}
+use Rattle.dactl_meaning.specs.declared.tree.Sign.{Sign}
+use Rattle.dactl_meaning.specs.declared.tree.PatternTree.{PatternTree}
+use Rattle.dactl_meaning.specs.Uses.{pattern_uses}
 use Rattle.dactl_symbols.specs.Least.{sooner, least_by}
 use Rattle.dactl_symbols.specs.UseFaults.{use_fault, use_at}
 use Rattle.dactl_symbols.proofs.Sooner.{least_by-append}

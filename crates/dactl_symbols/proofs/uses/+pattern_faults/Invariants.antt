@@ -1,6 +1,6 @@
 use Rattle.std.proofs.Common.{◌≡◌, take}
 use Rattle.std.specs.List.{flat_map}
-use Rattle.dactl_syntax.specs.Uses.{pattern_uses}
+use Rattle.dactl_meaning.specs.Uses.{pattern_uses}
 use Rattle.dactl_symbols.specs.Least.{least_by}
 use Rattle.dactl_symbols.specs.UseFaults.{use_fault}
 use Rattle.dactl_symbols.proofs.uses.+pattern_faults.Given as goal

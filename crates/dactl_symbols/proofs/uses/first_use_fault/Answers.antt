@@ -1,7 +1,7 @@
 use Rattle.std.proofs.Common.{ℕ, sym, ap, ◌∙◌}
 use Rattle.std.specs.List.{flat_map, enumerate_from}
-use Rattle.dactl_syntax.specs.declared.tree.Module.{Module}
-use Rattle.dactl_syntax.specs.Uses.{item_uses}
+use Rattle.dactl_meaning.specs.declared.tree.Module.{Module}
+use Rattle.dactl_meaning.specs.Uses.{item_uses}
 use Rattle.dactl_symbols.specs.Least.{least_by}
 use Rattle.dactl_symbols.specs.UseFaults.{use_fault}
 use Rattle.dactl_symbols.proofs.Joined.{all_numbered}

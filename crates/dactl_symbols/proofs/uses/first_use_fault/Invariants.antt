@@ -1,6 +1,6 @@
 use Rattle.std.proofs.Common.{◌≡◌, take}
 use Rattle.std.specs.List.{flat_map, enumerate_from}
-use Rattle.dactl_syntax.specs.Uses.{item_uses}
+use Rattle.dactl_meaning.specs.Uses.{item_uses}
 use Rattle.dactl_symbols.specs.Least.{least_by}
 use Rattle.dactl_symbols.specs.UseFaults.{use_fault}
 use Rattle.dactl_symbols.proofs.uses.first_use_fault.Given as goal

@@ -1,8 +1,8 @@
 use Rattle.std.proofs.Common.{ap, ◌∙◌}
 use Rattle.dactl_symbols.specs.Least.{least_by}
 use Rattle.std.specs.List.{flat_map}
-use Rattle.dactl_syntax.specs.declared.tree.Group.{Group}
-use Rattle.dactl_syntax.specs.Uses.{rule_uses}
+use Rattle.dactl_meaning.specs.declared.tree.Group.{Group}
+use Rattle.dactl_meaning.specs.Uses.{rule_uses}
 use Rattle.dactl_symbols.specs.UseFaults.{use_fault}
 use Rattle.dactl_symbols.proofs.Walks.{least_parts-more}
 use Rattle.dactl_symbols.proofs.uses.groups.Goals as goal

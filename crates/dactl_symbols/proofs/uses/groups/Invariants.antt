@@ -1,7 +1,7 @@
 use Rattle.std.proofs.Common.{◌≡◌, take}
 use Rattle.std.specs.List.{flat_map}
-use Rattle.dactl_syntax.specs.declared.tree.Group.{Group}
-use Rattle.dactl_syntax.specs.Uses.{rule_uses}
+use Rattle.dactl_meaning.specs.declared.tree.Group.{Group}
+use Rattle.dactl_meaning.specs.Uses.{rule_uses}
 use Rattle.dactl_symbols.specs.Least.{least_by}
 use Rattle.dactl_symbols.specs.UseFaults.{use_fault}
 use Rattle.dactl_symbols.proofs.uses.groups.Given as goal

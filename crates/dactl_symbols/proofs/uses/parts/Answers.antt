@@ -1,5 +1,5 @@
 use Rattle.std.proofs.Common.{◌∙◌}
-use Rattle.dactl_syntax.specs.Uses.{part_uses}
+use Rattle.dactl_meaning.specs.Uses.{part_uses}
 use Rattle.dactl_symbols.specs.UseFaults.{use_fault}
 use Rattle.dactl_symbols.proofs.Walks.{least_parts-more}
 use Rattle.dactl_symbols.proofs.uses.parts.Goals as goal

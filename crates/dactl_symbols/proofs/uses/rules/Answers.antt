@@ -1,6 +1,6 @@
 use Rattle.std.proofs.Common.{sym, ap, ◌∙◌}
 use Rattle.std.specs.List.{flat_map}
-use Rattle.dactl_syntax.specs.Uses.{pattern_uses, part_uses, rule_uses}
+use Rattle.dactl_meaning.specs.Uses.{pattern_uses, part_uses, rule_uses}
 use Rattle.dactl_symbols.specs.Least.{sooner, least_by}
 use Rattle.dactl_symbols.specs.UseFaults.{use_fault}
 use Rattle.dactl_symbols.proofs.Sooner.{least_by-append}

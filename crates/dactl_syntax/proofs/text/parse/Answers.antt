@@ -9,15 +9,15 @@ use Rattle.dactl_syntax.proofs.text.parse.Goals as goal
 
 pub returns-in-Ok-clause-found : goal.returns-in-Ok-clause-found
 returns-in-Ok-clause-found c =
-    read_tree c.args.text.now c.args.tokens.now c.in-Ok.modules (as_tokens c.args.text.now c.args.tokens.now c.in_ok-terminals.terminals.items c.as_slice.result.now (Ok c.in-Ok.modules) c.as_slice.ensures.value c.in_ok-terminals.ensures c.in-Ok.ensures)
+    read_tree c.args.text.now c.args.tokens.now (c.in-Ok.language, c.in-Ok.modules) (as_tokens c.args.text.now c.args.tokens.now c.in_ok-terminals.terminals.items c.as_slice.result.now (Ok (c.in-Ok.language, c.in-Ok.modules)) c.as_slice.ensures.value c.in_ok-terminals.ensures c.in-Ok.ensures)
 
 pub returns-in-Ok-clause-only : goal.returns-in-Ok-clause-only
 returns-in-Ok-clause-only c =
-    read_only c.args.text.now c.args.tokens.now c.in-Ok.modules (as_tokens c.args.text.now c.args.tokens.now c.in_ok-terminals.terminals.items c.as_slice.result.now (Ok c.in-Ok.modules) c.as_slice.ensures.value c.in_ok-terminals.ensures c.in-Ok.ensures)
+    read_only c.args.text.now c.args.tokens.now (c.in-Ok.language, c.in-Ok.modules) (as_tokens c.args.text.now c.args.tokens.now c.in_ok-terminals.terminals.items c.as_slice.result.now (Ok (c.in-Ok.language, c.in-Ok.modules)) c.as_slice.ensures.value c.in_ok-terminals.ensures c.in-Ok.ensures)
 
 pub returns-in-Ok-clause-only_refused : goal.returns-in-Ok-clause-only_refused
 returns-in-Ok-clause-only_refused c =
-    never_both c.args.text.now c.args.tokens.now c.in-Ok.modules (as_tokens c.args.text.now c.args.tokens.now c.in_ok-terminals.terminals.items c.as_slice.result.now (Ok c.in-Ok.modules) c.as_slice.ensures.value c.in_ok-terminals.ensures c.in-Ok.ensures)
+    never_both c.args.text.now c.args.tokens.now (c.in-Ok.language, c.in-Ok.modules) (as_tokens c.args.text.now c.args.tokens.now c.in_ok-terminals.terminals.items c.as_slice.result.now (Ok (c.in-Ok.language, c.in-Ok.modules)) c.as_slice.ensures.value c.in_ok-terminals.ensures c.in-Ok.ensures)
 
 pub returns-clause-only : goal.returns-clause-only
 returns-clause-only c =

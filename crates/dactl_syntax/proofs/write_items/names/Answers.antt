@@ -1,5 +1,5 @@
 use Rattle.std.proofs.Common.{rules, ◌≡◌, ◌++◌}
-use Rattle.dactl_syntax.specs.declared.tree.Name.{Name}
+use Rattle.dactl_meaning.specs.declared.tree.Name.{Name}
 use Rattle.dactl_syntax.specs.Canonical.{before_text, comma, word}
 use Rattle.dactl_syntax.proofs.Written.{separated_more}
 use Rattle.dactl_syntax.proofs.write_items.names.Goals as goal

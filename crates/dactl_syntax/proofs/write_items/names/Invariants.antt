@@ -1,5 +1,5 @@
 use Rattle.std.proofs.Common.{◌≡◌, ◌++◌, map, take}
-use Rattle.dactl_syntax.specs.declared.tree.Name.{Name}
+use Rattle.dactl_meaning.specs.declared.tree.Name.{Name}
 use Rattle.dactl_syntax.specs.Canonical.{separated, comma, word}
 use Rattle.dactl_syntax.proofs.write_items.names.Given as goal
 

@@ -3,4 +3,4 @@ use Rattle.dactl_tokens.specs.Spelling.{decimal}
 use Rattle.dactl_tokens.proofs.integers.magnitude.Given as goal
 
 abbrev pub invariant-loop-digit : goal.invariant-loop-digit
-invariant-loop-digit l = l.value ≡ min (decimal 0 (take l.digit-index l.digits)) (2 ^ 63 + 1)
+invariant-loop-digit l = l.value ≡ min (decimal 0 (take l.digit-index l.digits)) (2 ^ 127 + 1)

@@ -1,7 +1,7 @@
 use Rattle.std.proofs.Common.{◌≡◌, ℕ, ◌≤◌, map, take, drop}
 use Rattle.std.specs.Prelude.{sum_by}
 use Rattle.dactl_model.specs.declared.program.Pat.{Pat}
-use Rattle.dactl_syntax.specs.Expansion.{pattern_nodes, chain}
+use Rattle.dactl_meaning.specs.Expansion.{pattern_nodes, chain}
 use Rattle.dactl_patterns.specs.Table.{IsRight}
 use Rattle.dactl_patterns.specs.Expanding.{of_tree, of_link, tree_nodes}
 use Rattle.dactl_patterns.proofs.expanding.Expander.+expanding.Given as goal

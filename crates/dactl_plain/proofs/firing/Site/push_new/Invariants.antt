@@ -5,4 +5,4 @@ use Rattle.dactl_plain.proofs.firing.Site.push_new.Given as goal
 
 abbrev pub invariant-loop-node : goal.invariant-loop-node
 invariant-loop-node l =
-    l.nodes.items ≡ l.initial.nodes.items ++ map (fresh_node l.self.first l.self.bound.now (map_of l.self)) (take l.node-index l.fresh)
+    l.nodes ≡ l.initial.nodes ++ map (fresh_node l.self.first l.self.bound.now (map_of l.self)) (take l.node-index l.fresh)

@@ -1,8 +1,8 @@
 use Rattle.std.proofs.Common.{map, subst}
 use Rattle.std.specs.List.{flat_map}
 use Rattle.std.proofs.lemmas.List.{take_all}
-use Rattle.dactl_syntax.specs.Meaning.{rule_of}
-use Rattle.dactl_syntax.specs.RuleFaults.{rule_faults}
+use Rattle.dactl_meaning.specs.Meaning.{rule_of}
+use Rattle.dactl_meaning.specs.RuleFaults.{rule_faults}
 use Rattle.dactl_rules.specs.RuleLists.{Adds, terms_of}
 use Rattle.dactl_rules.proofs.RuleLists.{rules_more}
 use Rattle.dactl_rules.proofs.compiled.CompiledRules.add_rules.Goals as goal

@@ -1,7 +1,7 @@
 use Rattle.std.proofs.Common.{map, take}
 use Rattle.std.specs.List.{flat_map}
-use Rattle.dactl_syntax.specs.Meaning.{rule_of}
-use Rattle.dactl_syntax.specs.RuleFaults.{rule_faults}
+use Rattle.dactl_meaning.specs.Meaning.{rule_of}
+use Rattle.dactl_meaning.specs.RuleFaults.{rule_faults}
 use Rattle.dactl_rules.specs.RuleLists.{Adds, terms_of}
 use Rattle.dactl_rules.proofs.compiled.CompiledRules.add_rules.Given as goal
 

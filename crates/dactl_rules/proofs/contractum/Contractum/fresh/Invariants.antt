@@ -1,5 +1,5 @@
 use Rattle.std.proofs.Common.{◌≡◌, map, take}
-use Rattle.dactl_syntax.specs.Contractum.{fresh_of}
+use Rattle.dactl_meaning.specs.Contractum.{fresh_of}
 use Rattle.dactl_symbols.specs.Scoping.{seen_in}
 use Rattle.dactl_rules.specs.Drawing.{sketch_of, made_in}
 use Rattle.dactl_rules.proofs.contractum.Contractum.fresh.Given as goal

@@ -1,6 +1,6 @@
 use Rattle.std.proofs.Common.{length, map, sym, ap, ◌∙◌}
 use Rattle.std.proofs.lemmas.List.{length-map}
-use Rattle.dactl_syntax.specs.Contractum.{Drawn, term_of_part, terms_draw}
+use Rattle.dactl_meaning.specs.Contractum.{Drawn, term_of_part, terms_draw}
 use Rattle.dactl_rules.specs.Drawing.{target_of, made_in}
 use Rattle.dactl_rules.proofs.Meanings.{all_moves, drawn_lengths}
 use Rattle.dactl_rules.proofs.contractum.Contractum.moves.Goals as goal

@@ -3,9 +3,9 @@ use Rattle.std.proofs.lemmas.List.{append-nil}
 use Rattle.dactl_model.specs.declared.program.Mention.{Mention}
 use Rattle.dactl_model.specs.declared.program.Left.TheVariants.{Variable}
 use Rattle.dactl_model.specs.declared.program.Move.{Move}
-use Rattle.dactl_syntax.specs.declared.tree.Name.{Name}
-use Rattle.dactl_syntax.specs.Expansion.{number_in}
-use Rattle.dactl_syntax.specs.Contractum.{left_of_part, denotes}
+use Rattle.dactl_meaning.specs.declared.tree.Name.{Name}
+use Rattle.dactl_meaning.specs.Expansion.{number_in}
+use Rattle.dactl_meaning.specs.Contractum.{left_of_part, denotes}
 use Rattle.dactl_rules.specs.declared.drawing.Target.{Target}
 use Rattle.dactl_rules.specs.declared.drawing.Target.TheVariants as target
 use Rattle.dactl_rules.specs.Drawing.{target_of, made_in}

@@ -1,5 +1,5 @@
 use Rattle.std.proofs.Common.{List, sym, ap, ◌∙◌, subst, map, take}
-use Rattle.dactl_syntax.specs.Declarations.{Declaration}
+use Rattle.dactl_meaning.specs.Declarations.{Declaration}
 use Rattle.dactl_symbols.specs.Declaring.{declaration_of}
 use Rattle.dactl_symbols.specs.Meanings.{AreNames, Adds, first_with, found_in, symbol_count, count_with}
 use Rattle.dactl_symbols.proofs.NameSteps.{names-more, symbols-more}

@@ -1,7 +1,7 @@
 use Rattle.std.proofs.Common.{List, ap, ◌∙◌, map}
 use Rattle.std.specs.List.{filter_map}
 use Rattle.std.proofs.lemmas.List.{take_all}
-use Rattle.dactl_syntax.specs.Declarations.{Declaration, entity_symbol}
+use Rattle.dactl_meaning.specs.Declarations.{Declaration, entity_symbol}
 use Rattle.dactl_symbols.specs.Declaring.{declaration_of}
 use Rattle.dactl_symbols.specs.Scoping.{symbols_in}
 use Rattle.dactl_symbols.proofs.Walks.{picked_same-more}

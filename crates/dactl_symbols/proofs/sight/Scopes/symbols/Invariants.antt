@@ -1,6 +1,6 @@
 use Rattle.std.proofs.Common.{◌≡◌, map, take}
 use Rattle.std.specs.List.{filter_map}
-use Rattle.dactl_syntax.specs.Declarations.{entity_symbol}
+use Rattle.dactl_meaning.specs.Declarations.{entity_symbol}
 use Rattle.dactl_symbols.specs.Declaring.{declaration_of}
 use Rattle.dactl_symbols.proofs.sight.Scopes.symbols.Given as goal
 

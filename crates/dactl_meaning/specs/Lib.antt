@@ -1,0 +1,12 @@
+pub mod Faults
+pub mod Declarations
+pub mod Sight
+pub mod Uses
+pub mod ScopeFaults
+pub mod Expansion
+pub mod Contractum
+pub mod RuleFaults
+pub mod Meaning
+pub mod Spelling
+pub mod Order
+pub mod Unplaced

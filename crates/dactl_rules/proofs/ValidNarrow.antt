@@ -1,0 +1,259 @@
+-- What a text without characters and with integers of 64 bits means has none and such ones.
+use Rattle.std.proofs.Common.{◌≡◌, ℕ, zero, suc, ◌+◌, Bool, true, false, ◌&&◌, List, [], ◌∷◌, map, length, slice_get, All, IsTrue, ℤ, Option, Some, None, option_and_then, refl, sym, ap, subst, ◌∙◌, inl, inr}
+use Rattle.std.specs.List.{enumerate_from, filter_map, flat_map, list_all}
+use Rattle.dactl_base.specs.declared.refusal.Place.{Place}
+use Rattle.dactl_model.specs.declared.program.FreshNode.{FreshNode}
+use Rattle.dactl_model.specs.declared.program.Op.{Op}
+use Rattle.dactl_model.specs.declared.program.Pat.{Pat}
+use Rattle.dactl_model.specs.declared.program.Pat.TheOpen.{Pat-F}
+use Rattle.dactl_model.specs.declared.program.Pat.TheViews.{roll-Pat}
+use Rattle.dactl_model.specs.declared.program.Pat.TheFolds.{fold-roll-Pat, map-Pat}
+use Rattle.dactl_model.specs.Integers.{is_word}
+use Rattle.dactl_model.specs.Programs.{narrow_level, is_narrow, is_narrow_label, AreNarrowNodes, IsNarrowRule, integer_binder, arithmetic_rule}
+use Rattle.dactl_model.proofs.Unique.{left_true, right_true}
+use Rattle.dactl_meaning.specs.declared.tree.Name.{Name}
+use Rattle.dactl_meaning.specs.declared.tree.Marks.{Marks}
+use Rattle.dactl_meaning.specs.declared.tree.Sign.{Sign}
+use Rattle.dactl_meaning.specs.declared.tree.Sign.TheVariants as signs
+use Rattle.dactl_meaning.specs.declared.tree.PatternTree.{PatternTree}
+use Rattle.dactl_meaning.specs.declared.tree.PatternTree.TheOpen.{PatternTree-F}
+use Rattle.dactl_meaning.specs.declared.tree.PatternTree.TheViews.{roll-PatternTree}
+use Rattle.dactl_meaning.specs.declared.tree.PatternTree.TheFolds.{fold-roll-PatternTree, map-PatternTree}
+use Rattle.dactl_meaning.specs.declared.tree.NodeTree.{NodeTree}
+use Rattle.dactl_meaning.specs.declared.tree.ArgTree.{ArgTree}
+use Rattle.dactl_meaning.specs.declared.tree.TermTree.{TermTree}
+use Rattle.dactl_meaning.specs.declared.tree.NodeTree.TheOpen.{NodeTree-F, ArgTree-F, TermTree-F}
+use Rattle.dactl_meaning.specs.declared.tree.NodeTree.TheViews.{roll-NodeTree, roll-ArgTree, roll-TermTree}
+use Rattle.dactl_meaning.specs.declared.tree.NodeTree.TheFolds.{fold-NodeTree, fold-ArgTree, fold-roll-NodeTree, fold-roll-ArgTree, fold-roll-TermTree, map-NodeTree, map-TermTree}
+use Rattle.dactl_meaning.specs.declared.tree.RuleTree.{RuleTree}
+use Rattle.dactl_meaning.specs.declared.tree.Module.{Module}
+use Rattle.dactl_meaning.specs.declared.tree.Text.{Text}
+use Rattle.dactl_meaning.specs.Declarations.{Placed, items_of, items, item_pattern, named_pattern}
+use Rattle.dactl_meaning.specs.Sight.{Seen, SeenSymbol, SeenPattern, sees}
+use Rattle.dactl_meaning.specs.Expansion.{at_name, at_variable, join, chain, expansion_level, expansion_by, expansion_of, named_count, named_expansion, variables_of, number_in}
+use Rattle.dactl_meaning.specs.Contractum.{Core, Number, Character, Of, Sketch, Drawn, DrawnArc, drawn_from, node_drawn, arg_drawn, term_drawn, term_draws, terms_draw, term_of_part, made_by, symbol_label, label_of, fresh_of, fresh_nodes}
+use Rattle.dactl_meaning.specs.Meaning.{rule_of}
+use Rattle.dactl_meaning.specs.Spelling.{pattern_narrow, is_narrow_pattern, node_narrow, arg_narrow, term_narrow, is_narrow_term, all_patterns, IsNarrowText}
+use Rattle.dactl_rules.specs.Drawing.{node_draws, arg_draws}
+use Rattle.dactl_rules.proofs.ValidLists.{In, in_right, in_map, in_flat, in_filter_map, map_in, flat_in, in_get, all_of, all_in}
+use Rattle.dactl_rules.proofs.ValidTests.{both}
+use Rattle.dactl_rules.proofs.ValidTrees.{term_induction}
+use Rattle.dactl_rules.proofs.ValidPatterns.{expands}
+use Rattle.dactl_patterns.proofs.Induction.{Each, EachLink, pattern_induction}
+
+-- ---- patterns
+
+abbrev IsNarrow : Pat → Type 0
+IsNarrow p = is_narrow p ≡ true
+
+narrow_roll : (x : Pat-F Pat) → is_narrow (roll-Pat x) ≡ narrow_level (map-Pat Pat Bool is_narrow x)
+narrow_roll x = fold-roll-Pat Bool narrow_level x
+
+narrow_all : (args : List Pat) → Each IsNarrow args → list_all (λ b. b) (map is_narrow args) ≡ true
+narrow_all [] h = refl
+narrow_all (p ∷ ps) h = both _ _ h.0 (narrow_all ps h.1)
+
+narrow_variable : (variables : Option (List (List ℕ))) (w : List ℕ) (p : Pat) → IsNarrow p → IsNarrow (at_variable variables w p)
+narrow_variable None w p h = h
+narrow_variable (Some vs) w p h = narrow_roll (Pat-F.Bind (number_in vs w) p) ∙ h
+
+narrow_join : (s : Sign) (p q : Pat) → IsNarrow p → IsNarrow q → IsNarrow (join s p q)
+narrow_join signs.Plus p q h k = narrow_roll (Pat-F.Union p q) ∙ both _ _ h k
+narrow_join signs.Minus p q h k = narrow_roll (Pat-F.Less p q) ∙ both _ _ h k
+
+narrow_name : (named : ℕ → ℕ → Pat) → ((m i : ℕ) → IsNarrow (named m i)) → (seen : Option Seen) (args : List Pat) → Each IsNarrow args → IsNarrow (at_name named seen args)
+narrow_name named inner None args h = narrow_roll Pat-F.Any
+narrow_name named inner (Some (SeenSymbol f class)) args h = narrow_roll (Pat-F.Sym f args) ∙ narrow_all args h
+narrow_name named inner (Some (SeenPattern m i)) args h = inner m i
+
+module _ (look : List ℕ → Option Seen) (named : ℕ → ℕ → Pat) (variables : Option (List (List ℕ))) (inner : (m i : ℕ) → IsNarrow (named m i)) where
+  abbrev expand : PatternTree → Pat
+  expand = expansion_by look named variables
+
+  -- the expansion of a narrow pattern is narrow
+  abbrev Narrows : PatternTree → Type 0
+  Narrows t = is_narrow_pattern t ≡ true → IsNarrow (expand t)
+
+  narrows_opened : (x : PatternTree-F PatternTree)
+      → (pattern_narrow (map-PatternTree PatternTree Bool is_narrow_pattern x) ≡ true → IsNarrow (expansion_level look named variables (map-PatternTree PatternTree Pat expand x)))
+      → Narrows (roll-PatternTree x)
+  narrows_opened x claim h = subst IsNarrow (sym (expands look named variables x)) (claim (sym (fold-roll-PatternTree Bool pattern_narrow x) ∙ h))
+
+  narrows_all : (args : List PatternTree) → Each Narrows args → list_all (λ b. b) (map is_narrow_pattern args) ≡ true → Each IsNarrow (map expand args)
+  narrows_all [] each h = tt
+  narrows_all (a ∷ args) each h = (each.0 (left_true _ _ h), narrows_all args each.1 (right_true (is_narrow_pattern a) _ h))
+
+  narrows_chain : (p : Pat) (rest : List (Sign × PatternTree)) → IsNarrow p → EachLink Narrows rest → list_all (λ (l : Sign × Bool). l.1) (map (λ (l : Sign × PatternTree). (l.0, is_narrow_pattern l.1)) rest) ≡ true
+      → IsNarrow (chain p (map (λ l. (l.0, expand l.1)) rest))
+  narrows_chain p [] h each k = h
+  narrows_chain p (l ∷ rest) h each k =
+      narrows_chain (join l.0 p (expand l.1)) rest (narrow_join l.0 p (expand l.1) h (each.0 (left_true (is_narrow_pattern l.1) _ k))) each.1 (right_true (is_narrow_pattern l.1) _ k)
+
+  pub expansion_narrow : (t : PatternTree) → Narrows t
+  expansion_narrow = pattern_induction Narrows (record {
+    any = narrows_opened PatternTree-F.Any (λ h. narrow_roll Pat-F.Any);
+    int = narrows_opened PatternTree-F.Int (λ h. narrow_roll Pat-F.Int);
+    char = narrows_opened PatternTree-F.Char (λ h. absurd cc);
+    integer = λ i. narrows_opened (PatternTree-F.Integer i) (λ h. narrow_roll (Pat-F.Literal i) ∙ h);
+    letter = λ c. narrows_opened (PatternTree-F.Letter c) (λ h. absurd cc);
+    symbol = λ name args each. narrows_opened (PatternTree-F.Sym name args) (λ h. narrow_name named inner (look name.text) (map expand args) (narrows_all args each h));
+    variable = λ name. narrows_opened (PatternTree-F.Variable name) (λ h. narrow_variable variables name.text (roll-Pat Pat-F.Any) (narrow_roll Pat-F.Any));
+    binder = λ name t ih. narrows_opened (PatternTree-F.Binder name t) (λ h. narrow_variable variables name.text (expand t) (ih h));
+    chain = λ first rest ih each. narrows_opened (PatternTree-F.Chain first rest) (λ h. narrows_chain (expand first) rest (ih (left_true (is_narrow_pattern first) _ h)) each (right_true (is_narrow_pattern first) _ h));
+  })
+
+-- ---- named patterns
+
+-- each element stands under some number
+enumerated : {X : Type 0} (xs : List X) (n : ℕ) (x : X) → In xs x → (k : ℕ) × In (enumerate_from n xs) (k, x)
+enumerated [] n x h = absurd h
+enumerated (y ∷ xs) n x (inl e) = (n, inl (λ j. (n, e j)))
+enumerated (y ∷ xs) n x (inr h) = let r = enumerated xs _ x h in (r.0, inr r.1)
+
+found_then : {X Y : Type 0} (f : X → Option Y) (o : Option X) (y : Y) → option_and_then f o ≡ Some y → (x : X) × (o ≡ Some x) × (f x ≡ Some y)
+found_then f None y e = absurd cc
+found_then f (Some x) y e = (x, refl, e)
+
+pattern_in : (text : Text) (m i : ℕ) (t : PatternTree) → named_pattern text m i ≡ Some t → In (filter_map (λ (p : Placed). item_pattern p.item) (items text)) t
+pattern_in text m i t e =
+    let is = found_then item_pattern (option_and_then (λ (found : Module). slice_get found.items i) (slice_get text.modules m)) t e in
+    let of = found_then (λ (found : Module). slice_get found.items i) (slice_get text.modules m) is.0 is.1 in
+    let at = enumerated text.modules 0 of.0 (in_get text.modules m of.0 of.1) in
+    let there = enumerated of.0.items 0 is.0 (in_get of.0.items i is.0 of.2) in
+    let p : Placed = record { owner = at.0; number = there.0; item = is.0 } in
+    in_filter_map (λ (p : Placed). item_pattern p.item) (items text) p t
+    (in_flat items_of (enumerate_from 0 text.modules) (at.0, of.0) p at.1 (in_map (λ (j : ℕ × _). let p : Placed = record { owner = at.0; number = j.0; item = j.1 } in p) (enumerate_from 0 of.0.items) (there.0, is.0) there.1))
+    is.2
+
+named_tree : (named : ℕ → ℕ → Pat) (look : List ℕ → Option Seen) → ((m i : ℕ) → IsNarrow (named m i)) → (tree : Option PatternTree) → ((t : PatternTree) → tree ≡ Some t → is_narrow_pattern t ≡ true) → IsNarrow (expansion_of named look tree)
+named_tree named look inner None h = narrow_roll Pat-F.Any
+named_tree named look inner (Some t) h = expansion_narrow look named None inner t (h t refl)
+
+module _ (text : Text) (narrow : IsNarrowText text) where
+  named_narrow : (depth m i : ℕ) → IsNarrow (named_expansion text depth m i)
+  named_narrow zero m i = narrow_roll Pat-F.Any
+  named_narrow (suc depth) m i = named_tree (named_expansion text depth) (sees text m) (named_narrow depth) (named_pattern text m i)
+      (λ t e. all_in (λ p. IsTrue (is_narrow_pattern p)) (all_patterns text) narrow.patterns t (in_right _ _ t (pattern_in text m i t e)))
+
+-- ---- terms
+
+-- what the new node is made of is no character, and where it is an integer, one of 64 bits
+abbrev is_narrow_core : Core → Bool
+is_narrow_core (Number value) = is_word value
+is_narrow_core (Character value) = false
+is_narrow_core (Of name) = true
+
+abbrev AreNarrow : List Sketch → Type 0
+AreNarrow made = (s : Sketch) → In made s → is_narrow_core s.core ≡ true
+
+abbrev Node : Type 0
+Node = ℕ → Option Name → Marks → Drawn
+
+abbrev narrow_node : NodeTree → Bool
+narrow_node = fold-NodeTree Bool Bool Bool node_narrow arg_narrow term_narrow
+
+abbrev narrow_arg : ArgTree → Bool
+narrow_arg = fold-ArgTree Bool Bool Bool node_narrow arg_narrow term_narrow
+
+abbrev NodeMakes : NodeTree → Type 0
+NodeMakes t = narrow_node t ≡ true → (k : ℕ) (name : Option Name) (m : Marks) → AreNarrow (node_draws t k name m).made
+
+abbrev ArgMakes : ArgTree → Type 0
+ArgMakes t = narrow_arg t ≡ true → (k : ℕ) → AreNarrow (arg_draws t k).drawn.made
+
+abbrev TermMakes : TermTree → Type 0
+TermMakes t = is_narrow_term t ≡ true → (k : ℕ) → AreNarrow (term_draws t k).made
+
+node_opened : (x : NodeTree-F NodeTree ArgTree TermTree)
+    → (node_narrow (map-NodeTree NodeTree ArgTree TermTree Bool Bool Bool narrow_node narrow_arg is_narrow_term x) ≡ true → (k : ℕ) (name : Option Name) (m : Marks)
+    → AreNarrow (node_drawn (map-NodeTree NodeTree ArgTree TermTree Node (ℕ → DrawnArc) (ℕ → Drawn) node_draws arg_draws term_draws x) k name m).made)
+    → NodeMakes (roll-NodeTree x)
+node_opened x claim h k name m =
+    subst (λ (d : Drawn). AreNarrow d.made) (sym (ap (λ (f : Node). f k name m) (fold-roll-NodeTree Node (ℕ → DrawnArc) (ℕ → Drawn) node_drawn arg_drawn term_drawn x)))
+    (claim (sym (fold-roll-NodeTree Bool Bool Bool node_narrow arg_narrow term_narrow x) ∙ h) k name m)
+
+arg_makes : (waits : Bool) (term : TermTree) → TermMakes term → ArgMakes (roll-ArgTree (record { waits = waits; term = term }))
+arg_makes waits term ih h k =
+    let x : ArgTree-F NodeTree ArgTree TermTree = record { waits = waits; term = term } in
+    let narrow : narrow_arg (roll-ArgTree x) ≡ is_narrow_term term = fold-roll-ArgTree Bool Bool Bool node_narrow arg_narrow term_narrow x in
+    let draw : (arg_draws (roll-ArgTree x) k).drawn ≡ term_draws term k = ap (λ (f : ℕ → DrawnArc). (f k).drawn) (fold-roll-ArgTree Node (ℕ → DrawnArc) (ℕ → Drawn) node_drawn arg_drawn term_drawn x) in
+    subst (λ (d : Drawn). AreNarrow d.made) (sym draw) (ih (sym narrow ∙ h) k)
+
+term_opened : (x : TermTree-F NodeTree ArgTree TermTree)
+    → (term_narrow (map-TermTree NodeTree ArgTree TermTree Bool Bool Bool narrow_node narrow_arg is_narrow_term x) ≡ true → (k : ℕ)
+    → AreNarrow (term_drawn (map-TermTree NodeTree ArgTree TermTree Node (ℕ → DrawnArc) (ℕ → Drawn) node_draws arg_draws term_draws x) k).made)
+    → TermMakes (roll-TermTree x)
+term_opened x claim h k =
+    subst (λ (d : Drawn). AreNarrow d.made) (sym (ap (λ (f : ℕ → Drawn). f k) (fold-roll-TermTree Node (ℕ → DrawnArc) (ℕ → Drawn) node_drawn arg_drawn term_drawn x)))
+    (claim (sym (fold-roll-TermTree Bool Bool Bool node_narrow arg_narrow term_narrow x) ∙ h) k)
+
+integer_makes : (value : ℤ) (place : Place) → NodeMakes (roll-NodeTree (NodeTree-F.Integer value place))
+integer_makes value place = node_opened (NodeTree-F.Integer value place) (λ h k name m s i. elim i [ inl e ↦ subst (λ (z : Sketch). is_narrow_core z.core ≡ true) e h | inr none ↦ absurd none ])
+
+letter_makes : (value : ℕ) (place : Place) → NodeMakes (roll-NodeTree (NodeTree-F.Letter value place))
+letter_makes value place = node_opened (NodeTree-F.Letter value place) (λ h k name m s i. absurd cc)
+
+args_make : (args : List ArgTree) → Each ArgMakes args → list_all (λ b. b) (map narrow_arg args) ≡ true → (k : ℕ) (d : DrawnArc) → In (drawn_from k (map arg_draws args)) d → AreNarrow d.drawn.made
+args_make [] each h k d i = absurd i
+args_make (a ∷ args) each h k d i = elim i [
+  | inl e ↦ subst (λ (z : DrawnArc). AreNarrow z.drawn.made) e (each.0 (left_true (narrow_arg a) _ h) k)
+  | inr more ↦ args_make args each.1 (right_true (narrow_arg a) _ h) (k + length (arg_draws a k).drawn.made) d more
+]
+
+symbol_makes : (name : Name) (args : List ArgTree) → Each ArgMakes args → NodeMakes (roll-NodeTree (NodeTree-F.Sym name args))
+symbol_makes symbol args each = node_opened (NodeTree-F.Sym symbol args) (λ h k name m s i. elim i [
+  | inl e ↦ subst (λ (z : Sketch). is_narrow_core z.core ≡ true) e refl
+  | inr below ↦ (let r = flat_in (λ (d : DrawnArc). d.drawn.made) (drawn_from (k + 1) (map arg_draws args)) s below in args_make args each h (k + 1) r.0 r.1 s r.2)
+])
+
+bare_makes : (marks : Marks) (name : Option Name) → TermMakes (roll-TermTree (record { marks = marks; name = name; node = None }))
+bare_makes marks None = term_opened (record { marks = marks; name = None; node = None }) (λ h k s i. absurd i)
+bare_makes marks (Some name) = term_opened (record { marks = marks; name = Some name; node = None }) (λ h k s i. absurd i)
+
+node_makes : (marks : Marks) (name : Option Name) (node : NodeTree) → NodeMakes node → TermMakes (roll-TermTree (record { marks = marks; name = name; node = Some node }))
+node_makes marks None node ih = term_opened (record { marks = marks; name = None; node = Some node }) (λ h k. ih h k None marks)
+node_makes marks (Some name) node ih = term_opened (record { marks = marks; name = Some name; node = Some node }) (λ h k. ih h k (Some name) marks)
+
+term_makes : (t : TermTree) → TermMakes t
+term_makes = term_induction NodeMakes ArgMakes TermMakes (record { integer = integer_makes; letter = letter_makes; symbol = symbol_makes; arg = arg_makes; bare = bare_makes; made = node_makes })
+
+terms_make : (terms : List TermTree) (k : ℕ) → ((t : TermTree) → In terms t → is_narrow_term t ≡ true) → (d : Drawn) → In (terms_draw k terms) d → AreNarrow d.made
+terms_make [] k h d i = absurd i
+terms_make (t ∷ terms) k h d i = elim i [
+  | inl e ↦ subst (λ (z : Drawn). AreNarrow z.made) e (term_makes t (h t (inl refl)) k)
+  | inr more ↦ terms_make terms (k + length (term_draws t k).made) (λ s j. h s (inr j)) d more
+]
+
+symbol_narrow : (o : Option Seen) → is_narrow_label (symbol_label o) ≡ true
+symbol_narrow None = refl
+symbol_narrow (Some (SeenSymbol f class)) = refl
+symbol_narrow (Some (SeenPattern m i)) = refl
+
+label_narrow : (look : List ℕ → Option Seen) (c : Core) → is_narrow_core c ≡ true → is_narrow_label (label_of look c) ≡ true
+label_narrow look (Number value) h = h
+label_narrow look (Character value) h = absurd cc
+label_narrow look (Of name) h = symbol_narrow (look name.text)
+
+-- the new nodes of narrow terms are narrow
+pub news_narrow : (look : List ℕ → Option Seen) (variables : List (List ℕ)) (terms : List TermTree) → ((t : TermTree) → In terms t → is_narrow_term t ≡ true) → AreNarrowNodes (fresh_nodes look variables terms)
+news_narrow look variables terms h = all_of (λ (node : FreshNode). IsTrue (is_narrow_label node.label)) (fresh_nodes look variables terms) (λ n i.
+    let r = map_in (fresh_of look variables (made_by terms)) (made_by terms) n i in
+    let d = flat_in (λ (d : Drawn). d.made) (terms_draw 0 terms) r.0 r.1 in
+    subst (λ (z : FreshNode). is_narrow_label z.label ≡ true) r.2 (label_narrow look r.0.core (terms_make terms 0 h d.0 d.1 r.0 d.2)))
+
+-- ---- rules
+
+binder_narrow : (v : ℕ) → IsNarrow (integer_binder v)
+binder_narrow v = narrow_roll (Pat-F.Bind v (roll-Pat Pat-F.Int)) ∙ narrow_roll Pat-F.Int
+
+pub arithmetic_narrow : (f : ℕ) (o : Op) → IsNarrowRule (arithmetic_rule f o)
+arithmetic_narrow f o = record {
+  pattern = narrow_roll (Pat-F.Sym f (integer_binder 0 ∷ integer_binder 1 ∷ [])) ∙ narrow_all (integer_binder 0 ∷ integer_binder 1 ∷ []) (binder_narrow 0, (binder_narrow 1, tt));
+  body = tt;
+}
+
+pub rule_narrow : (text : Text) → IsNarrowText text → (m group : ℕ) (r : RuleTree) → is_narrow_pattern r.pattern ≡ true → ((t : TermTree) → In (map term_of_part r.parts) t → is_narrow_term t ≡ true) → IsNarrowRule (rule_of text m group r)
+rule_narrow text narrow m group r h k = record {
+  pattern = expansion_narrow (sees text m) (named_expansion text (named_count text)) (Some (variables_of r.pattern)) (named_narrow text narrow (named_count text)) r.pattern h;
+  body = news_narrow (sees text m) (variables_of r.pattern) (map term_of_part r.parts) k;
+}

@@ -1,0 +1,8 @@
+pub mod Numbers
+pub mod LineParts
+pub mod Entries
+pub mod Rooms
+pub mod NextLine
+pub mod Journals
+pub mod Outcomes
+pub mod OneVerdict
