@@ -1,7 +1,6 @@
 -- The faults of left sides, as the definitions list them.
 use Rattle.std.proofs.Common.{◌≡◌, ℕ, zero, suc, ◌+◌, ◌<◌, Bool, true, false, not, ◌&&◌, cond, List, [], ◌∷◌, ◌++◌, length, map, take, get_or, Option, Some, None, is_some, refl, sym, ap, ◌∙◌, append_assoc, arith, if◌then◌else◌}
 use Rattle.std.specs.List.{filter, flat_map, list_any}
-use Rattle.std.specs.Borrow.{Bor}
 use Rattle.std.proofs.lemmas.List.{append-nil, take_more, map-append}
 use Rattle.std.proofs.lemmas.Grind.{flat_map-append}
 use Rattle.dactl_base.specs.declared.refusal.Kind.TheVariants as kinds
@@ -10,7 +9,7 @@ use Rattle.dactl_meaning.specs.declared.tree.Name.{Name}
 use Rattle.dactl_meaning.specs.Expansion.{is_among, number_in, is_overwritable}
 use Rattle.dactl_meaning.specs.RuleFaults.{each_at, place_of}
 use Rattle.dactl_rules.specs.Numbers.{variable_number}
-use Rattle.dactl_rules.specs.Lefts.{words, left_unbound, is_fixed, left_fixed}
+use Rattle.dactl_rules.specs.Lefts.{left_unbound, is_fixed, left_fixed}
 use Rattle.dactl_rules.proofs.ToldFaults.{each_flat, map_kept, place_by, variable_told}
 use Rattle.dactl_rules.proofs.Meanings.{variable_some, variable_none}
 use Rattle.dactl_rules.proofs.ValidTests.{or_left, or_right}

@@ -1,5 +1,5 @@
 -- The names of a root, by the layer of the pattern at its top.
-use Rattle.std.proofs.Common.{◌≡◌, ℕ, Bool, List, [], ap, ◌∙◌, if◌then◌else◌}
+use Rattle.std.proofs.Common.{◌≡◌, Bool, List, [], ap, ◌∙◌, if◌then◌else◌}
 use Rattle.dactl_meaning.specs.declared.tree.Sign.{Sign}
 use Rattle.dactl_meaning.specs.declared.tree.PatternTree.{PatternTree}
 use Rattle.dactl_meaning.specs.declared.tree.PatternTree.TheVariants as p

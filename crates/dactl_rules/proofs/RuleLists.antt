@@ -1,7 +1,7 @@
 -- Rules and faults that are added one after another.
-use Rattle.std.proofs.Common.{◌≡◌, ℕ, ◌+◌, ◌<◌, ◌≤◌, Bool, true, false, if◌then◌else◌, List, [], ◌∷◌, ◌++◌, map, length, take, get_or, All, Contains, Option, Some, None, refl, sym, ap, ◌∙◌, subst, arith, append_assoc, length-append}
+use Rattle.std.proofs.Common.{◌≡◌, ℕ, ◌+◌, ◌<◌, Bool, true, false, if◌then◌else◌, List, [], ◌∷◌, ◌++◌, map, length, take, get_or, Contains, Option, Some, None, refl, sym, ap, ◌∙◌, subst, arith, append_assoc, length-append}
 use Rattle.std.specs.List.{flat_map}
-use Rattle.std.proofs.lemmas.List.{append-nil, take_more, map-append}
+use Rattle.std.proofs.lemmas.List.{append-nil, map-append}
 use Rattle.std.proofs.lemmas.List.Elements.{All-append, All-from_recursion}
 use Rattle.std.proofs.lemmas.Grind.{flat_map-append}
 use Rattle.dactl_base.specs.declared.refusal.Refusal.{Refusal}
@@ -17,7 +17,7 @@ use Rattle.dactl_symbols.specs.Least.{sooner, precedes, TellsLeast}
 use Rattle.dactl_symbols.proofs.Sooner.{sooner-None, sooner-assoc}
 use Rattle.dactl_rules.specs.declared.compiled.CompiledRules.{CompiledRules}
 use Rattle.dactl_rules.specs.Counting.{AreCountable}
-use Rattle.dactl_rules.specs.RuleLists.{Adds, AddsGroups, HasRules, terms_of, placed_groups, groups_in, faults_in, contracta_in}
+use Rattle.dactl_rules.specs.RuleLists.{Adds, AddsGroups, HasRules, terms_of, placed_groups, groups_in, faults_in}
 use Rattle.dactl_rules.proofs.Least.{tells_append}
 use Rattle.dactl_rules.proofs.Listings.{one_more, flat_one}
 use Rattle.dactl_rules.proofs.Listings.{items_more as items_more_of}

@@ -14,7 +14,9 @@ use Rattle.dactl_meaning.specs.Contractum.{name_list, given_names}
 use Rattle.dactl_meaning.specs.RuleFaults.{each_at, again, place_of}
 use Rattle.dactl_rules.specs.declared.drawing.Sketch.{Sketch}
 use Rattle.dactl_rules.specs.Drawing.{sketch_of, named}
-use Rattle.dactl_rules.specs.Numbers.{found, Notes, variable_number}
+use Rattle.dactl_names.specs.declared.map.NameMap.{NameMap}
+use Rattle.dactl_names.specs.Found.{found, Notes}
+use Rattle.dactl_rules.specs.Numbers.{variable_number}
 use Rattle.dactl_rules.specs.Told.{fault_at}
 use Rattle.dactl_rules.proofs.Tables.{is_some-first}
 
@@ -53,7 +55,7 @@ is_some-if true n = refl
 is_some-if false n = refl
 
 -- what the table says once the name is noted
-noted_seen : (table next : List (List ℕ × ℕ)) (n v : List ℕ) → Notes n 0 table next → is_some (found next v) ≡ (is_some (found table v) || bytes_eq n v)
+noted_seen : (table next : NameMap ℕ) (n v : List ℕ) → Notes n 0 table next → is_some (found next v) ≡ (is_some (found table v) || bytes_eq n v)
 noted_seen table next n v noted = ap is_some (noted v) ∙ is_some-option_or (found table v) (if bytes_eq n v then Some 0 else None) ∙ ap (λ (z : Bool). is_some (found table v) || z) (is_some-if (bytes_eq n v) 0)
 
 bools : (p q e : Bool) → (e || (p || q)) ≡ (p || (q || e))
@@ -87,7 +89,7 @@ each_again kind b xs n = by b
     by false = ap (λ (z : List Name). each_at kind (map place_of z)) (append-nil xs) ∙ sym (append-nil (each_at kind (map place_of xs)))
 
 -- what holds of the names so far, after which the table has those seen
-pub record AreTwice (kind : Kind) (variables : List (List ℕ)) (names : List Name) (table : List (List ℕ × ℕ)) (start faults : List Refusal) : Type 0 where
+pub record AreTwice (kind : Kind) (variables : List (List ℕ)) (names : List Name) (table : NameMap ℕ) (start faults : List Refusal) : Type 0 where
   pub told : faults ≡ start ++ each_at kind (map place_of (again variables names))
   pub seen : (w : List ℕ) → is_among (seen_after variables names) w ≡ (is_some (variable_number variables w) || is_some (found table w))
 
@@ -95,10 +97,15 @@ or_none : (b : Bool) → b ≡ (b || false)
 or_none true = refl
 or_none false = refl
 
-pub twice_start : (kind : Kind) (variables : List (List ℕ)) (start : List Refusal) → AreTwice kind variables [] [] start start
-twice_start kind variables start = record { told = sym (append-nil start); seen = λ w. sym (is_some-first (λ v. bytes_eq v w) 0 variables) ∙ or_none (is_some (variable_number variables w)) }
+pub twice_start : (kind : Kind) (variables : List (List ℕ)) (table : NameMap ℕ) (start : List Refusal) → ((w : List ℕ) → found table w ≡ None) → AreTwice kind variables [] table start start
+twice_start kind variables table start none = record {
+  told = sym (append-nil start);
+  seen = λ w.
+      sym (is_some-first (λ v. bytes_eq v w) 0 variables) ∙ or_none (is_some (variable_number variables w))
+      ∙ ap (λ (o : Option ℕ). is_some (variable_number variables w) || is_some o) (sym (none w));
+}
 
-pub twice_more : (kind : Kind) (variables : List (List ℕ)) (names : List Name) (table table_next : List (List ℕ × ℕ)) (start faults next : List Refusal) (n : Name) (known : Bool) → AreTwice kind variables names table start faults → Notes n.text 0 table table_next
+pub twice_more : (kind : Kind) (variables : List (List ℕ)) (names : List Name) (table table_next : NameMap ℕ) (start faults next : List Refusal) (n : Name) (known : Bool) → AreTwice kind variables names table start faults → Notes n.text 0 table table_next
     → known ≡ (is_some (variable_number variables n.text) || is_some (found table n.text)) → next ≡ faults ++ fault_at known kind n.place
     → AreTwice kind variables (names ++ n ∷ []) table_next start next
 twice_more kind variables names table table_next start faults next n known h noted k step =

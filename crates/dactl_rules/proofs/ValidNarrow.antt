@@ -1,6 +1,6 @@
 -- What a text without characters and with integers of 64 bits means has none and such ones.
-use Rattle.std.proofs.Common.{◌≡◌, ℕ, zero, suc, ◌+◌, Bool, true, false, ◌&&◌, List, [], ◌∷◌, map, length, slice_get, All, IsTrue, ℤ, Option, Some, None, option_and_then, refl, sym, ap, subst, ◌∙◌, inl, inr}
-use Rattle.std.specs.List.{enumerate_from, filter_map, flat_map, list_all}
+use Rattle.std.proofs.Common.{◌≡◌, ℕ, zero, suc, ◌+◌, Bool, true, false, List, [], ◌∷◌, map, length, slice_get, IsTrue, ℤ, Option, Some, None, option_and_then, refl, sym, ap, subst, ◌∙◌, inl, inr}
+use Rattle.std.specs.List.{enumerate_from, filter_map, list_all}
 use Rattle.dactl_base.specs.declared.refusal.Place.{Place}
 use Rattle.dactl_model.specs.declared.program.FreshNode.{FreshNode}
 use Rattle.dactl_model.specs.declared.program.Op.{Op}

@@ -1,5 +1,5 @@
 -- A rule that makes its root wait again does not redirect it.
-use Rattle.std.proofs.Common.{◌≡◌, ℕ, ◌<◌, ◌≤◌, Bool, true, false, not, ◌||◌, ◌&&◌, ◌==◌, List, [], ◌∷◌, map, filter, ℤ, Option, Some, None, refl, sym, ap, subst, ◌∙◌, arith, if◌then◌else◌, ◌⊎◌, inl, inr}
+use Rattle.std.proofs.Common.{◌≡◌, ℕ, ◌<◌, ◌≤◌, Bool, true, false, not, ◌||◌, ◌&&◌, ◌==◌, List, [], ◌∷◌, map, filter, Option, Some, None, refl, sym, ap, subst, ◌∙◌, arith, if◌then◌else◌, ◌⊎◌, inl, inr}
 use Rattle.std.specs.List.{list_any}
 use Rattle.std.proofs.lemmas.Bool.{eqb-true}
 use Rattle.dactl_model.specs.declared.program.Pat.{Pat}
@@ -24,7 +24,7 @@ use Rattle.dactl_rules.proofs.ValidLists.{In, in_left}
 use Rattle.dactl_rules.proofs.ValidTests.{or_left, or_right, neither, neither_left, neither_right, is_false}
 use Rattle.dactl_rules.proofs.ValidPatterns.{expands, occurs}
 use Rattle.dactl_rules.proofs.ValidVariables.{among_of, number_once}
-use Rattle.dactl_patterns.proofs.Induction.{EachLink, pattern_induction}
+use Rattle.dactl_patterns.proofs.Induction.{pattern_induction}
 use Rattle.dactl_patterns.proofs.Layers.{plus_kept}
 
 -- ---- what stands for the root is bound

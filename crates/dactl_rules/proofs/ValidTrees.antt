@@ -1,5 +1,5 @@
 -- Induction over the trees of terms.
-use Rattle.std.proofs.Common.{ℕ, Bool, List, [], ◌∷◌, map, ℤ, Option, Some, None, subst}
+use Rattle.std.proofs.Common.{ℕ, Bool, List, map, ℤ, Option, Some, None, subst}
 use Rattle.dactl_base.specs.declared.refusal.Place.{Place}
 use Rattle.dactl_meaning.specs.declared.tree.Name.{Name}
 use Rattle.dactl_meaning.specs.declared.tree.Marks.{Marks}

@@ -1,5 +1,5 @@
 -- What the code finds of a whole text is what the definitions say.
-use Rattle.std.proofs.Common.{◌≡◌, ℕ, ◌+◌, ◌<◌, ◌⊎◌, inl, inr, Bool, List, [], ◌∷◌, ◌++◌, map, length, take, get_or, All, Contains, Option, Some, None, Result, Ok, Err, refl, sym, ap, ◌∙◌, subst, arith}
+use Rattle.std.proofs.Common.{◌≡◌, ℕ, ◌+◌, ◌<◌, ◌⊎◌, inl, inr, Bool, List, [], ◌∷◌, ◌++◌, map, length, take, get_or, All, Contains, Option, None, refl, sym, ap, ◌∙◌, subst, arith}
 use Rattle.std.specs.List.{flat_map}
 use Rattle.std.proofs.lemmas.List.{append-nil, map-append}
 use Rattle.std.proofs.lemmas.List.Elements.{All-append, All-from_recursion}
@@ -7,9 +7,7 @@ use Rattle.std.proofs.lemmas.Grind.{flat_map-append}
 use Rattle.dactl_base.specs.declared.refusal.Refusal.{Refusal}
 use Rattle.dactl_base.specs.declared.refusal.TextFault.{TextFault}
 use Rattle.dactl_base.specs.declared.refusal.TextFault.TheVariants as faults
-use Rattle.dactl_model.specs.declared.program.Program.{Program}
 use Rattle.dactl_model.specs.declared.program.Rule.{Rule}
-use Rattle.dactl_model.specs.declared.program.Start.{Start}
 use Rattle.dactl_model.specs.Programs.{IsValid}
 use Rattle.dactl_base.specs.declared.refusal.Place.{Place}
 use Rattle.dactl_meaning.specs.declared.tree.Group.{Group}
@@ -19,9 +17,9 @@ use Rattle.dactl_meaning.specs.declared.tree.RuleTree.{RuleTree}
 use Rattle.dactl_meaning.specs.declared.tree.TermTree.{TermTree}
 use Rattle.dactl_meaning.specs.declared.tree.Text.{Text}
 use Rattle.dactl_meaning.specs.Contractum.{Sketch, Drawn, term_of_part, term_draws, terms_draw, made_by, denotes}
-use Rattle.dactl_meaning.specs.Declarations.{Placed, PlacedGroup, PlacedRule, item_groups, items, groups, rules, symbols}
-use Rattle.dactl_meaning.specs.Faults.{phase, Precedes, NoFault, IsLeastFault, IsDueFault}
-use Rattle.dactl_meaning.specs.Meaning.{PlacedInitial, item_initial, all_initials, node_number, root_of, arithmetic_rules, rules_from, start_by, named_faults, faults_of_rules, CycleFault, RuleFault, TreeFault, program_of, is_wide}
+use Rattle.dactl_meaning.specs.Declarations.{Placed, PlacedGroup, PlacedRule, item_groups, items, groups, rules}
+use Rattle.dactl_meaning.specs.Faults.{NoFault, IsLeastFault, IsDueFault}
+use Rattle.dactl_meaning.specs.Meaning.{PlacedInitial, item_initial, all_initials, node_number, root_of, arithmetic_rules, rules_from, start_by, named_faults, CycleFault, RuleFault, program_of, is_wide}
 use Rattle.dactl_meaning.specs.RuleFaults.{contractum_faults, rule_faults}
 use Rattle.dactl_meaning.specs.ScopeFaults.{ScopeFault}
 use Rattle.dactl_meaning.specs.Sight.{Seen, sees}
@@ -32,8 +30,8 @@ use Rattle.dactl_rules.specs.declared.compiled.CompiledRules.{CompiledRules}
 use Rattle.dactl_rules.specs.Counting.{AreCountable, IsCountable}
 use Rattle.dactl_rules.specs.Drafts.{IsDraft}
 use Rattle.dactl_rules.specs.Initials.{initial_faults, initials_in, root_in, start_in, AreRead}
-use Rattle.dactl_rules.specs.RuleLists.{HasRules, terms_of, groups_in, faults_in, contracta_in}
-use Rattle.dactl_meaning.specs.Spelling.{IsSpelled, contracta}
+use Rattle.dactl_rules.specs.RuleLists.{HasRules, terms_of, faults_in, contracta_in}
+use Rattle.dactl_meaning.specs.Spelling.{IsSpelled}
 use Rattle.dactl_rules.proofs.Late.{rule_phase, cycle_phase}
 use Rattle.dactl_rules.proofs.Least.{tells_append}
 use Rattle.dactl_rules.proofs.Listings.{items_more}

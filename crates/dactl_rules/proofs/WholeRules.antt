@@ -16,18 +16,16 @@ use Rattle.dactl_model.specs.Binders.{head}
 use Rattle.dactl_meaning.specs.declared.tree.Name.{Name}
 use Rattle.dactl_meaning.specs.declared.tree.PatternTree.{PatternTree}
 use Rattle.dactl_meaning.specs.declared.tree.RuleTree.{RuleTree}
-use Rattle.dactl_meaning.specs.declared.tree.TermTree.{TermTree}
 use Rattle.dactl_meaning.specs.declared.tree.Text.{Text}
-use Rattle.dactl_meaning.specs.Faults.{phase, Precedes, NoFault, IsLeastFault, IsDueFault, TellsFaults}
+use Rattle.dactl_meaning.specs.Faults.{Precedes, IsLeastFault, IsDueFault, TellsFaults}
 use Rattle.dactl_meaning.specs.Meaning.{rule_of}
-use Rattle.dactl_meaning.specs.Sight.{Seen, sees, class_for}
+use Rattle.dactl_meaning.specs.Sight.{sees, class_for}
 use Rattle.dactl_meaning.specs.Expansion.{is_among, number_in, variables_of, root_names, pattern_nodes, rule_expansion, pattern_expansion}
-use Rattle.dactl_meaning.specs.Contractum.{Sketch, MentionTree, term_of_part, made_by, mentions_of, has_star, fresh_of, fresh_nodes, moves_of, wakes_of, asked_by, suspend_of}
-use Rattle.dactl_meaning.specs.RuleFaults.{suspendable, each_at, at_if, is_too_wide, binders_in_choice, wide_in_pattern, named_twice_in_pattern, again, place_of, head_is, is_class, lefts_of, contractum_faults, pattern_faults, left_faults, rule_faults, root_not_rewritable, unbound_lefts, redirected_twice, not_overwritable}
-use Rattle.dactl_symbols.specs.Least.{sooner, precedes, TellsLeast}
+use Rattle.dactl_meaning.specs.Contractum.{MentionTree, term_of_part, mentions_of, has_star, fresh_of, fresh_nodes, moves_of, wakes_of, asked_by, suspend_of}
+use Rattle.dactl_meaning.specs.RuleFaults.{suspendable, each_at, at_if, is_too_wide, again, place_of, head_is, is_class, lefts_of, contractum_faults, pattern_faults, rule_faults, root_not_rewritable, unbound_lefts, redirected_twice, not_overwritable}
+use Rattle.dactl_symbols.specs.Least.{TellsLeast}
 use Rattle.dactl_symbols.specs.Scoping.{seen_in, class_in, IsScopesOf}
 use Rattle.dactl_symbols.specs.Sights.{Sights}
-use Rattle.dactl_symbols.proofs.Sooner.{tells-same, tells-sooner}
 use Rattle.dactl_symbols.proofs.Turns.{precedes-trans, Precedes-test, test-Precedes}
 use Rattle.dactl_patterns.proofs.Faultless.{wide_there}
 use Rattle.dactl_rules.specs.declared.reading.RuleParts.{RuleParts}
@@ -37,7 +35,6 @@ use Rattle.dactl_rules.specs.Reading.{IsRead}
 use Rattle.dactl_rules.specs.Rules.{early_faults, fixed_faults, meant_of, IsAnswerFor}
 use Rattle.dactl_rules.specs.Meant.{wake_of}
 use Rattle.dactl_rules.specs.Told.{fault_at, suspensions_in, drawn_faults}
-use Rattle.dactl_rules.proofs.Least.{one_is}
 use Rattle.dactl_rules.proofs.Meanings.{wake_one}
 use Rattle.dactl_rules.proofs.ValidTests.{not_above as not_wider}
 use Rattle.dactl_rules.proofs.LeftSides.{left_unbound_told, left_fixed_told}

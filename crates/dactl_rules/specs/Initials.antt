@@ -1,5 +1,5 @@
 -- What a text says of its first graph.
-use Rattle.std.specs.Prelude.{ℕ, List, [], ◌∷◌, map, All, Contains, Option, None, Some}
+use Rattle.std.specs.Prelude.{ℕ, List, [], ◌∷◌, map, All, Contains, Option}
 use Rattle.std.specs.List.{flat_map}
 use Rattle.dactl_base.specs.declared.refusal.Refusal.{Refusal}
 use Rattle.dactl_model.specs.declared.program.Start.{Start}

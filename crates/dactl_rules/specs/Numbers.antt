@@ -1,17 +1,7 @@
--- Numbers of names, as pairs in the order of the names.
-use Rattle.std.specs.Prelude.{◌≡◌, ℕ, ◌+◌, Bool, List, [], ◌∷◌, Option, Some, None, if◌then◌else◌}
-use Rattle.std.specs.Option.{option_or}
+-- Numbers of names.
+use Rattle.std.specs.Prelude.{ℕ, ◌+◌, Bool, List, [], ◌∷◌, Option, Some, None, if◌then◌else◌}
 use Rattle.std.specs.Str.{bytes_eq}
 use Rattle.dactl_meaning.specs.Contractum.{Sketch, has_name}
-
--- the number of a name
-abbrev pub found : List (List ℕ × ℕ) → List ℕ → Option ℕ
-found [] w = None
-found (e ∷ table) w = if bytes_eq e.0 w then Some e.1 else found table w
-
--- a name gets a number, unless it has one; the others keep theirs
-abbrev pub Notes : List ℕ → ℕ → List (List ℕ × ℕ) → List (List ℕ × ℕ) → Type 0
-Notes name number old new = (w : List ℕ) → found new w ≡ option_or (found old w) (if bytes_eq name w then Some number else None)
 
 -- the number of the first item that passes a test
 abbrev pub first_from : {A : Type 0} → (A → Bool) → ℕ → List A → Option ℕ

@@ -9,7 +9,8 @@ use Rattle.dactl_meaning.specs.RuleFaults.{lefts_of, suspendable}
 use Rattle.dactl_rules.specs.declared.reading.RuleParts.{RuleParts}
 use Rattle.dactl_rules.specs.Drawing.{made_in}
 use Rattle.dactl_rules.specs.Lefts.{words}
-use Rattle.dactl_rules.specs.Numbers.{found, node_number}
+use Rattle.dactl_names.specs.Found.{found}
+use Rattle.dactl_rules.specs.Numbers.{node_number}
 use Rattle.dactl_rules.specs.Terms.{AreDrawn}
 use Rattle.dactl_rules.specs.Counting.{AreCounted}
 

@@ -1,5 +1,5 @@
 -- The faults of a rule, by what is read of it.
-use Rattle.std.specs.Prelude.{◌≡◌, ℕ, ◌≤◌, not, List, [], ◌++◌, map, All, Contains, Option, Some, unwrap_or, length, if◌then◌else◌}
+use Rattle.std.specs.Prelude.{◌≡◌, ℕ, ◌≤◌, not, List, [], ◌++◌, map, All, Option, Some, unwrap_or, length, if◌then◌else◌}
 use Rattle.std.specs.List.{filter, filter_map, flat_map}
 use Rattle.std.specs.Borrow.{Bor}
 use Rattle.dactl_base.specs.declared.refusal.Kind.TheVariants as kinds

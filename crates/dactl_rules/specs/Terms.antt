@@ -7,7 +7,8 @@ use Rattle.dactl_rules.specs.declared.drawing.Target.{Target}
 use Rattle.dactl_rules.specs.declared.drawing.Drawing.{Drawing}
 use Rattle.dactl_rules.specs.declared.contractum.Contractum.{Contractum}
 use Rattle.dactl_rules.specs.Drawing.{target_of, made_in, mentioned_in}
-use Rattle.dactl_rules.specs.Numbers.{found, node_number}
+use Rattle.dactl_names.specs.Found.{found}
+use Rattle.dactl_rules.specs.Numbers.{node_number}
 
 -- the terms behind the references
 abbrev pub seen : List (Bor TermTree) → List TermTree

@@ -2,13 +2,14 @@
 ghost use Rattle.std.specs.Prelude.{◌≡◌, ℕ, ◌<◌, ◌^◌, true, IfOk, length, List, map, Some};
 ghost use Rattle.dactl_rules.specs.Counting.{arcs_of, AreCounted};
 ghost use Rattle.dactl_rules.specs.Drawing.{made_in, sketch_of};
-ghost use Rattle.dactl_rules.specs.Numbers.{found, node_number};
+ghost use Rattle.dactl_names.specs.Found.{found};
+ghost use Rattle.dactl_rules.specs.Numbers.{node_number};
 ghost use Rattle.dactl_rules.specs.Terms.{seen, AreDrawn};
 
 use crate::drawing::{Drawing, MOST_NODES, Sketch, Target, term};
-use crate::numbers::Numbers;
 use dactl_base::refusal::Memory;
 use dactl_meaning::tree::TermTree;
+use dactl_names::NameMap;
 use std::alloc::{AllocError, Global};
 
 /// A contractum: what its terms make and mention, what each of them stands for, and the numbers of
@@ -17,14 +18,14 @@ use std::alloc::{AllocError, Global};
 pub struct Contractum<'a> {
     pub drawing: Drawing<'a>,
     pub targets: Vec<Target<'a>>,
-    pub given: Numbers,
+    pub given: NameMap<usize>,
 }
 
 /// The numbers of the new nodes that have names.
-fn given(alloc: Global, made: &[Sketch]) -> Result<Numbers, Memory>
+fn given(alloc: Global, made: &[Sketch]) -> Result<NameMap<usize>, Memory>
     ensures { IfOk result (λ table. (w : List ℕ) → found table w ≡ node_number (map sketch_of made.now) w) }
 {
-    let mut numbers = Numbers::new(alloc);
+    let mut numbers = NameMap::new(alloc);
     for (number, sketch) in made.iter().enumerate() {
         if let Some(name) = sketch.name {
             numbers.note(alloc, name.text.as_slice(), number)?;

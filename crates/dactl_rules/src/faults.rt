@@ -7,16 +7,17 @@ ghost use Rattle.dactl_meaning.specs.Contractum.{given_names};
 ghost use Rattle.dactl_symbols.specs.Scoping.{seen_in};
 ghost use Rattle.dactl_symbols.specs.Least.{TellsLeast};
 ghost use Rattle.dactl_rules.specs.Drawing.{core_of, sketch_of, mention_of, made_in, mentioned_in};
-ghost use Rattle.dactl_rules.specs.Numbers.{found, node_number, variable_number};
+ghost use Rattle.dactl_names.specs.Found.{found};
+ghost use Rattle.dactl_rules.specs.Numbers.{node_number, variable_number};
 ghost use Rattle.dactl_rules.specs.Told as told;
 
 use crate::contractum::Contractum;
 use crate::drawing::{Core, Mentioned, Sketch};
-use crate::numbers::Numbers;
 use crate::suspending::is_suspending;
 use crate::variables::Variables;
 use dactl_base::refusal::{Kind, Memory, Place, Refusal};
 use dactl_meaning::tree::Marks;
+use dactl_names::NameMap;
 use dactl_symbols::least::lesser;
 use dactl_symbols::sight::{Scopes, Seen};
 use std::alloc::Global;
@@ -108,7 +109,7 @@ fn too_many_waits(faults: &mut Vec<Refusal>, made: &[Sketch]) -> Result<(), Memo
     Ok(())
 }
 
-pub fn is_bound(variables: &Variables, given: &Numbers, name: &[u8]) -> bool
+pub fn is_bound(variables: &Variables, given: &NameMap<usize>, name: &[u8]) -> bool
     ensures { result ≡ (is_some (variable_number variables.now name.now) || is_some (found given.now name.now)) }
 {
     variables.number(name).is_some() || given.get(name).is_some()
@@ -118,7 +119,7 @@ pub fn is_bound(variables: &Variables, given: &Numbers, name: &[u8]) -> bool
 fn unbound(
     faults: &mut Vec<Refusal>,
     variables: &Variables,
-    given: &Numbers,
+    given: &NameMap<usize>,
     mentions: &[Mentioned],
 ) -> Result<(), Memory>
     ensures { OnOk result (faults.new.items ≡ faults.old.items ++ flat_map (told.unbound_at (λ w. is_some (variable_number variables.now w) || is_some (found given.now w))) (map mention_of mentions.now)) }
@@ -152,7 +153,7 @@ fn mark_on_bound(
     faults: &mut Vec<Refusal>,
     variables: &Variables,
     roots: &Variables,
-    given: &Numbers,
+    given: &NameMap<usize>,
     mentions: &[Mentioned],
 ) -> Result<(), Memory>
     ensures { OnOk result (faults.new.items ≡ faults.old.items ++ flat_map (told.mark_at (λ w. is_some (variable_number variables.now w) || is_some (found given.now w)) (is_among variables.now) (is_among roots.now)) (map mention_of mentions.now)) }
@@ -205,7 +206,7 @@ fn named_twice(
 ) -> Result<(), Memory>
     ensures { OnOk result (faults.new.items ≡ faults.old.items ++ each_at Kind.NamedTwice (map place_of (again variables.now (given_names (map sketch_of made.now))))) }
 {
-    let mut seen = Numbers::new(alloc);
+    let mut seen = NameMap::new(alloc);
     for sketch in made {
         if let Some(name) = sketch.name {
             let word = name.text.as_slice();

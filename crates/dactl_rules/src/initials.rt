@@ -7,7 +7,8 @@ ghost use Rattle.dactl_rules.specs.Counting.{AreCountable};
 ghost use Rattle.dactl_rules.specs.Drawing.{made_in, target_of};
 ghost use Rattle.dactl_rules.specs.Initials.{initials_in, initial_of, root_in, start_at, start_in, AreRead};
 ghost use Rattle.dactl_rules.specs.Listing.{placed};
-ghost use Rattle.dactl_rules.specs.Numbers.{found, node_number};
+ghost use Rattle.dactl_names.specs.Found.{found};
+ghost use Rattle.dactl_rules.specs.Numbers.{node_number};
 ghost use Rattle.dactl_rules.specs.Terms.{seen, AreDrawn, IsReady};
 
 use crate::contractum::{Contractum, draw};

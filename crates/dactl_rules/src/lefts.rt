@@ -9,12 +9,12 @@ ghost use Rattle.dactl_symbols.specs.Scoping.{class_in};
 ghost use Rattle.dactl_rules.specs.Lefts.{words, left_unbound, is_fixed, left_fixed};
 
 use crate::faults::{fault_at, is_bound};
-use crate::numbers::Numbers;
 use crate::overwriting::is_overwritable;
 use crate::variables::Variables;
 use dactl_base::refusal::{Kind, Memory, Refusal};
 use dactl_meaning::tree::{Name, Part};
 use dactl_model::program::Pat;
+use dactl_names::NameMap;
 use dactl_symbols::sight::Scopes;
 use std::alloc::Global;
 
@@ -69,7 +69,7 @@ pub fn redirected_twice(
 ) -> Result<(), Memory>
     ensures { OnOk result (faults.new.items ≡ faults.old.items ++ each_at kinds.RedirectedTwice (map place_of (again redirected.now (filter (λ n. is_among variables.now n.text) (words lefts.now))))) }
 {
-    let mut seen = Numbers::new(alloc);
+    let mut seen = NameMap::new(alloc);
     for left in lefts {
         let word = left.text.as_slice();
         if variables.number(word).is_some() {

@@ -11,7 +11,6 @@ pub mod laws;
 mod lefts;
 mod listing;
 mod meaning;
-mod numbers;
 mod overwriting;
 mod reading;
 mod roots;

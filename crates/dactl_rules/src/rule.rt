@@ -13,7 +13,8 @@ ghost use Rattle.dactl_patterns.specs.Table.{AreNamed};
 ghost use Rattle.dactl_rules.specs.Counting.{AreCountable};
 ghost use Rattle.dactl_rules.specs.Terms.{IsReady, AreDrawn};
 ghost use Rattle.dactl_rules.specs.Drawing.{made_in};
-ghost use Rattle.dactl_rules.specs.Numbers.{found, node_number};
+ghost use Rattle.dactl_names.specs.Found.{found};
+ghost use Rattle.dactl_rules.specs.Numbers.{node_number};
 ghost use Rattle.dactl_rules.specs.Rules.{early_faults as faults_before, fixed_faults, meant_of, IsAnswerFor};
 
 use crate::faults::{contractum_faults, fault_at, first};

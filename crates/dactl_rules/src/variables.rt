@@ -3,8 +3,8 @@ ghost use Rattle.std.specs.Prelude.{◌≡◌, ◌≤◌, IfOk, length};
 ghost use Rattle.dactl_meaning.specs.Expansion.{is_among};
 ghost use Rattle.dactl_rules.specs.Numbers.{variable_number};
 
-use crate::numbers::Numbers;
 use dactl_base::refusal::Memory;
+use dactl_names::NameMap;
 use sqlite_items::Items;
 use std::alloc::Global;
 use std::marker::Model;
@@ -13,12 +13,13 @@ use std::marker::Model;
 #[derive(Drop)]
 pub struct Variables {
     names: Items<Items<u8>>,
-    numbers: Numbers,
+    numbers: NameMap<usize>,
 }
 
 impl Model for Variables {
     ghost use Rattle.std.specs.Prelude.{◌≡◌, ℕ, List};
-    ghost use Rattle.dactl_rules.specs.Numbers.{found, variable_number};
+    ghost use Rattle.dactl_names.specs.Found.{found};
+    ghost use Rattle.dactl_rules.specs.Numbers.{variable_number};
 
     ghost Value = { List (List ℕ) };
 
@@ -32,7 +33,7 @@ impl Variables {
     pub fn new(alloc: Global, names: Items<Items<u8>>) -> Result<Variables, Memory>
         ensures { IfOk result (λ v. v ≡ names) }
     {
-        let mut numbers = Numbers::new(alloc);
+        let mut numbers = NameMap::new(alloc);
         for (number, name) in names.as_slice().iter().enumerate() {
             numbers.note(alloc, name.as_slice(), number)?;
         }

@@ -3,12 +3,10 @@ use Rattle.std.specs.Prelude.{◌≡◌, ℕ, ◌+◌, ◌-◌, ◌^◌, min, fi
 use Rattle.std.specs.List.{before_first, list_any}
 use Rattle.std.specs.Option.{option_or}
 use Rattle.std.specs.Str.{bytes_eq}
-use Rattle.std.specs.Prelude.{Vec}
-use Rattle.std.specs.BTreeMap.{BTreeMap, get_by}
-use Rattle.std.specs.Cmp.Lexicographic.{slice_cmp}
-use Rattle.std.specs.Ordering.{nat_cmp}
 use Rattle.dactl_base.specs.declared.refusal.Refusal.{Refusal}
 use Rattle.dactl_base.specs.declared.refusal.Kind.TheVariants as kinds
+use Rattle.dactl_names.specs.declared.map.NameMap.{NameMap}
+use Rattle.dactl_names.specs.Found.{found}
 use Rattle.dactl_meaning.specs.declared.tree.Name.{Name}
 use Rattle.dactl_meaning.specs.Declarations.{Home, Entity, Declaration, is_called, is_symbol}
 use Rattle.dactl_symbols.specs.Least.{sooner}
@@ -62,8 +60,8 @@ again_after earlier [] = None
 again_after earlier (d ∷ ds) = sooner (again_at earlier d) (again_after (earlier ++ d ∷ []) ds)
 
 -- what a map from names finds
-abbrev pub found_in : {A : Type 0} → BTreeMap (Vec ℕ A) Meaning → List ℕ → Option First
-found_in m word = option_map meaning_of (get_by (λ k. slice_cmp nat_cmp word k.items) m)
+abbrev pub found_in : NameMap Meaning → List ℕ → Option First
+found_in m word = option_map meaning_of (found m word)
 
 -- the look-up and the fault are those of the declarations
 pub record AreNames (ds : List Declaration) (found : List ℕ → Option First) (again : Option Refusal) : Type 0 where

@@ -8,8 +8,8 @@ use crate::least::lesser;
 use crate::survey::{Declared, Entity, Home};
 use dactl_base::refusal::{Kind, Refusal};
 use dactl_model::Memory;
+use dactl_names::NameMap;
 use std::alloc::Global;
-use std::collections::BTreeMap;
 use std::marker::Model;
 
 /// What a name means: what its first declaration says, and how many symbols are declared before it,
@@ -21,12 +21,11 @@ pub struct Meaning {
     pub number: u32,
 }
 
-/// The declarations of a text in their order, those before the text included. What each name means
-/// is kept by the order of names: a text chooses its names, and could choose them for a hash.
+/// The declarations of a text in their order, those before the text included.
 #[derive(Drop)]
 pub struct Names {
     declared: Vec<Declared>,
-    first: BTreeMap<Vec<u8>, Meaning>,
+    first: NameMap<Meaning>,
     again: Option<Refusal>,
 }
 
@@ -56,7 +55,7 @@ fn counted(symbols: u32, entity: Entity) -> u32
 /// Adds what a name means by this declaration. Where it means something already, that stays, and the
 /// answer is the fault.
 fn note(
-    first: &mut BTreeMap<Vec<u8>, Meaning>,
+    first: &mut NameMap<Meaning>,
     alloc: Global,
     declared: &Declared,
     symbols: u32,
@@ -64,23 +63,18 @@ fn note(
     ensures fault { IfOk result (λ fault. fault ≡ repeats (found_in first.old declared.now.name.text) declared.now.name) }
     ensures added { OnOk result (Adds (found_in first.old) (found_in first.new) declared.now.name.text (first_with (declaration_of declared.now) symbols)) }
 {
-    let word = declared.name.text.as_slice();
-    if first.contains_key(word) {
-        return Ok(Some(Refusal {
-            kind: Kind::TwiceDeclared,
-            place: declared.name.place,
-        }));
+    let meaning = Meaning {
+        home: declared.home,
+        entity: declared.entity,
+        number: symbols,
+    };
+    if first.note(alloc, declared.name.text.as_slice(), meaning)? {
+        return Ok(None);
     }
-    let key = Vec::from_slice(alloc, word)?;
-    first.insert(
-        key,
-        Meaning {
-            home: declared.home,
-            entity: declared.entity,
-            number: symbols,
-        },
-    )?;
-    Ok(None)
+    Ok(Some(Refusal {
+        kind: Kind::TwiceDeclared,
+        place: declared.name.place,
+    }))
 }
 
 impl Names {
@@ -88,7 +82,7 @@ impl Names {
     pub fn new(alloc: Global, declared: Vec<Declared>) -> Result<Names, Memory>
         ensures { IfOk result (λ names. names ≡ map declaration_of declared.items) }
     {
-        let mut first = BTreeMap::new(alloc);
+        let mut first = NameMap::new(alloc);
         let mut again = None;
         let mut symbols = 0u32;
         for one in &declared {
@@ -107,7 +101,7 @@ impl Names {
     pub fn meaning(&self, word: &[u8]) -> Option<Meaning>
         ensures { option_map meaning_of result ≡ meaning_in self.now word.now }
     {
-        self.first.get(word).copied()
+        self.first.get(word)
     }
 
     /// The first declaration of a name that is declared before, as a fault.

@@ -1,4 +1,4 @@
-use Rattle.std.proofs.Common.{◌∙◌, List, Contains, map, ap, sym, refl, subst}
+use Rattle.std.proofs.Common.{◌∙◌, List, Contains, ap, refl, subst}
 use Rattle.std.specs.List.{flat_map}
 use Rattle.dactl_meaning.specs.Declarations.{Placed}
 use Rattle.dactl_meaning.specs.Meaning.{named_faults}

@@ -1,4 +1,4 @@
-use Rattle.std.proofs.Common.{map, take, ap, subst, Contains}
+use Rattle.std.proofs.Common.{map, subst, Contains}
 use Rattle.std.specs.List.{flat_map}
 use Rattle.std.proofs.lemmas.List.{take_all}
 use Rattle.dactl_meaning.specs.Meaning.{named_faults}

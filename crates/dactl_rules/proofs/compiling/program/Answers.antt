@@ -1,9 +1,8 @@
-use Rattle.std.proofs.Common.{◌≡◌, ◌∙◌, ◌<◌, ◌⊎◌, ◌++◌, ℕ, List, Option, None, map, refl, ap, sym, subst, inl, inr}
+use Rattle.std.proofs.Common.{◌∙◌, map, refl, ap, sym, subst, inl, inr}
 use Rattle.std.proofs.lemmas.Result.{err_from_is_err_and}
 use Rattle.dactl_model.specs.Programs.{IsValid}
 use Rattle.std.specs.Borrow.{Bor}
 use Rattle.dactl_meaning.specs.declared.tree.Text.{Text}
-use Rattle.dactl_meaning.specs.Declarations.{Placed, items}
 use Rattle.dactl_meaning.specs.Meaning.{RuleFault, is_wide}
 use Rattle.dactl_symbols.specs.Least.{TellsLeast}
 use Rattle.dactl_rules.specs.Drafts.{IsDraft}

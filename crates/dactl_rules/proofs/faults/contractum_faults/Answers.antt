@@ -1,7 +1,7 @@
 use Rattle.std.proofs.Common.{map, ap}
 use Rattle.dactl_symbols.specs.Scoping.{seen_in}
 use Rattle.dactl_rules.specs.Drawing.{sketch_of, mention_of, made_in, mentioned_in}
-use Rattle.dactl_rules.specs.Numbers.{found}
+use Rattle.dactl_names.specs.Found.{found}
 use Rattle.dactl_rules.proofs.ToldFaults.{all_told}
 use Rattle.dactl_rules.proofs.faults.contractum_faults.Goals as goal
 

@@ -2,7 +2,8 @@ use Rattle.std.proofs.Common.{◌≡◌, ◌++◌, ◌||◌, map, take, is_some}
 use Rattle.std.specs.List.{flat_map}
 use Rattle.dactl_meaning.specs.Expansion.{is_among}
 use Rattle.dactl_rules.specs.Drawing.{mention_of}
-use Rattle.dactl_rules.specs.Numbers.{found, variable_number}
+use Rattle.dactl_names.specs.Found.{found}
+use Rattle.dactl_rules.specs.Numbers.{variable_number}
 use Rattle.dactl_rules.specs.Told as told
 use Rattle.dactl_rules.proofs.faults.mark_on_bound.Given as goal
 

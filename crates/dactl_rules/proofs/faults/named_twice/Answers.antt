@@ -5,14 +5,15 @@ use Rattle.dactl_base.specs.declared.refusal.Kind.TheVariants as kinds
 use Rattle.dactl_meaning.specs.declared.tree.Name.{Name}
 use Rattle.dactl_meaning.specs.Contractum.{given_names, name_list}
 use Rattle.dactl_rules.specs.Drawing.{sketch_of, named}
-use Rattle.dactl_rules.specs.Numbers.{found, Notes, variable_number}
+use Rattle.dactl_names.specs.Found.{found, Notes}
+use Rattle.dactl_rules.specs.Numbers.{variable_number}
 use Rattle.dactl_rules.specs.Told.{fault_at}
 use Rattle.dactl_rules.proofs.Twice.{twice_start, twice_more, names_more}
 use Rattle.dactl_rules.proofs.faults.named_twice.Goals as goal
 use Rattle.dactl_rules.proofs.faults.named_twice.Goals.{in-Some+in_ok-note+in_ok-fault_at, in_default}
 
 pub loop-sketch-init : goal.loop-sketch-init
-loop-sketch-init c = rw c.new-seen.ensures (twice_start kinds.NamedTwice c.args.variables.now c.args.faults.now.items)
+loop-sketch-init c = twice_start kinds.NamedTwice c.args.variables.now c.new-seen.result c.args.faults.now.items c.new-seen.ensures
 
 pub loop-sketch-preserved : goal.loop-sketch-preserved
 loop-sketch-preserved c = elim c.match-sketch.branch [

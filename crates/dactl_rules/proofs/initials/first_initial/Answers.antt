@@ -2,7 +2,7 @@ use Rattle.std.proofs.Common.{ap, sym, ◌∙◌, [], ◌∷◌}
 use Rattle.dactl_meaning.specs.Meaning.{item_initial}
 use Rattle.dactl_rules.specs.Initials.{initials_in, initial_of}
 use Rattle.dactl_rules.specs.Listing.{placed}
-use Rattle.dactl_rules.proofs.Listings.{first_found, items_more}
+use Rattle.dactl_rules.proofs.Listings.{first_found}
 use Rattle.dactl_rules.proofs.initials.first_initial.Goals as goal
 
 pub returns-in-Initial : goal.returns-in-Initial

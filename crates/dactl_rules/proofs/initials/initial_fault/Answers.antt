@@ -1,4 +1,4 @@
-use Rattle.std.proofs.Common.{map, take, subst}
+use Rattle.std.proofs.Common.{map, subst}
 use Rattle.std.specs.List.{flat_map}
 use Rattle.std.proofs.lemmas.List.{take_all}
 use Rattle.dactl_symbols.specs.Scoping.{seen_in}

@@ -1,4 +1,4 @@
-use Rattle.std.proofs.Common.{map, [], refl, ◌∙◌}
+use Rattle.std.proofs.Common.{map, refl, ◌∙◌}
 use Rattle.dactl_meaning.specs.Contractum.{fresh_of, made_by}
 use Rattle.dactl_symbols.specs.Scoping.{seen_in}
 use Rattle.dactl_rules.specs.Initials.{root_in}

@@ -6,7 +6,8 @@ use Rattle.dactl_base.specs.declared.refusal.Kind.TheVariants as kinds
 use Rattle.dactl_meaning.specs.declared.tree.Name.{Name}
 use Rattle.dactl_meaning.specs.Expansion.{is_among}
 use Rattle.dactl_meaning.specs.RuleFaults.{each_at, again, place_of}
-use Rattle.dactl_rules.specs.Numbers.{found, Notes, variable_number}
+use Rattle.dactl_names.specs.Found.{found, Notes}
+use Rattle.dactl_rules.specs.Numbers.{variable_number}
 use Rattle.dactl_rules.specs.Told.{fault_at}
 use Rattle.dactl_rules.specs.Lefts.{words}
 use Rattle.dactl_rules.proofs.ToldFaults.{kept_more, variable_told}
@@ -15,7 +16,7 @@ use Rattle.dactl_rules.proofs.lefts.redirected_twice.Goals as goal
 use Rattle.dactl_rules.proofs.lefts.redirected_twice.Goals.{then-is_some+in_ok-note+in_ok-fault_at, else-is_some}
 
 pub loop-left-init : goal.loop-left-init
-loop-left-init c = rw c.new-seen.ensures (twice_start kinds.RedirectedTwice c.args.redirected.now c.args.faults.now.items)
+loop-left-init c = twice_start kinds.RedirectedTwice c.args.redirected.now c.new-seen.result c.args.faults.now.items c.new-seen.ensures
 
 pub loop-left-preserved : goal.loop-left-preserved
 loop-left-preserved c =

@@ -1,8 +1,7 @@
-use Rattle.std.proofs.Common.{◌≡◌, ◌≤◌, ◌⊎◌, ap, sym, ◌∙◌, subst, length, map, List, Option, Contains, false}
+use Rattle.std.proofs.Common.{◌≤◌, ◌⊎◌, ap, sym, ◌∙◌, subst, length, List, Contains, false}
 use Rattle.std.proofs.lemmas.Result.{IfOk-weaker, err_from_is_err_and}
 use Rattle.std.specs.Borrow.{Bor}
 use Rattle.dactl_base.specs.declared.refusal.Refusal.{Refusal}
-use Rattle.dactl_model.specs.declared.program.Pat.{Pat}
 use Rattle.dactl_meaning.specs.declared.tree.Name.{Name}
 use Rattle.dactl_meaning.specs.Contractum.{Sketch}
 use Rattle.dactl_meaning.specs.Expansion.{pattern_expansion}

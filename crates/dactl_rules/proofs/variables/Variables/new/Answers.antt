@@ -1,5 +1,5 @@
 use Rattle.std.proofs.Common.{ℕ, List, subst}
-use Rattle.dactl_rules.specs.Numbers.{Notes}
+use Rattle.dactl_names.specs.Found.{Notes}
 use Rattle.dactl_rules.proofs.Tables.{variables_more}
 use Rattle.dactl_rules.proofs.variables.Variables.new.Goals as goal
 

@@ -1,0 +1,4 @@
+pub mod Options
+pub mod Numbers
+pub mod Long
+pub mod Finding
