@@ -1,21 +1,18 @@
 -- What a contract sees once a record is written.
 use Rattle.std.proofs.Common.{◌≡◌, ℕ, ◌+◌, ◌<◌, ◌≤◌, [], ◌∷◌, ◌++◌, length, set, map, refl, sym, ap, ◌∙◌, arith, subst, length-set}
 use Rattle.std.proofs.lemmas.List.{length-map, length_push, map-append, map-set}
-use Rattle.dactl_active.specs.Ring.{has}
 use Rattle.dactl_arcs.specs.declared.lists.ArcRecord.{ArcRecord}
 use Rattle.dactl_arcs.specs.Pool.{Pool}
 use Rattle.dactl_arcs.specs.Kept.{IsKept}
 use Rattle.dactl_model.specs.declared.graph.NodeId.{NodeId}
 use Rattle.dactl_model.specs.declared.graph.Mark.{Mark}
 use Rattle.dactl_model.specs.declared.graph.Room.{Room}
-use Rattle.dactl_model.specs.Acts.{marks_active}
 use Rattle.dactl_store.specs.declared.table.NodeRecord.{NodeRecord}
-use Rattle.dactl_store.specs.Table.{Table, no_node, record_of, ring_with}
+use Rattle.dactl_store.specs.Table.{Table, no_node, record_of, ring_with, marked, longer}
 use Rattle.dactl_store.specs.Held.{changed_at, with_mark, with_arcs}
 use Rattle.dactl_store.specs.Layout.{arc_of, own_part, node_of, graph_of, greatest, version_of, held_of, AreLaid, spans_of, IsStore}
 use Rattle.dactl_store.proofs.Lists.{map-changed, map-set_same, map_same}
 use Rattle.dactl_store.proofs.Laying.{AreLaid-push, AreLaid-more, own_part-push, own_part-more, last_ends}
-use Rattle.dactl_store.proofs.Rings.{ring_with-same}
 use Rattle.dactl_store.proofs.Seen.{span_of, span_within}
 use Rattle.dactl_store.proofs.Versions.{greatest_zero}
 
@@ -27,9 +24,9 @@ table_set nodes n written = record { records = set nodes.records n written; acti
 abbrev pub table_push : Table → NodeRecord → Table
 table_push nodes added = record { records = nodes.records ++ added ∷ []; active = ring_with added.mark nodes.active (length nodes.records); room = nodes.room }
 
--- the record with a further arc
-abbrev pub longer : NodeRecord → NodeRecord
-longer r = record r { span = record { first = r.span.first; count = r.span.count + 1 } }
+-- the table after a record that keeps its mark is written
+abbrev pub table_kept : Table → ℕ → NodeRecord → Table
+table_kept nodes n written = record nodes { records = set nodes.records n written }
 
 module _ (nodes : Table) (arcs : Pool) (root : NodeId) (room : Room) (is : IsStore nodes arcs room) where
   pub IsStore-set : (n : ℕ) (written : NodeRecord) → written.span ≡ (record_of nodes.records n).span → IsStore (table_set nodes n written) arcs room
@@ -45,10 +42,10 @@ module _ (nodes : Table) (arcs : Pool) (root : NodeId) (room : Room) (is : IsSto
   }
 
   pub marked_seen : (n : NodeId) (mark : Mark) → n.number < length nodes.records
-      → held_of (table_set nodes n.number (record (record_of nodes.records n.number) { mark = mark })) arcs root room
+      → held_of (table_set nodes n.number (marked mark (record_of nodes.records n.number))) arcs root room
       ≡ record (held_of nodes arcs root room) { graph = with_mark (graph_of nodes.records arcs.arcs root) n mark; active = ring_with mark nodes.active n.number }
   marked_seen n mark below =
-      let written : NodeRecord = record (record_of nodes.records n.number) { mark = mark } in
+      let written : NodeRecord = marked mark (record_of nodes.records n.number) in
       let seen : map (node_of arcs.arcs) (set nodes.records n.number written) ≡ changed_at n.number (λ node. record node { mark = mark }) (map (node_of arcs.arcs) nodes.records) =
       map-changed (node_of arcs.arcs) (λ node. record node { mark = mark }) nodes.records n.number no_node written below refl in
       let versions : map (version_of arcs.changed) (set nodes.records n.number written) ≡ map (version_of arcs.changed) nodes.records = map-set_same (version_of arcs.changed) nodes.records n.number no_node written refl in
@@ -73,7 +70,7 @@ module _ (nodes : Table) (arcs : Pool) (root : NodeId) (room : Room) (is : IsSto
     before = record_of nodes.records n
 
     pub IsStore-more : (written : NodeRecord) → written.span.first ≡ (record_of nodes.records n).span.first → written.span.count ≡ (record_of nodes.records n).span.count + 1 → written.span.count ≤ 16
-        → length arcs.arcs < arcs.room → IsStore (table_set nodes n written) more room
+        → length arcs.arcs < arcs.room → IsStore (table_kept nodes n written) more room
     IsStore-more written first count few free = record {
       nodes_room = is.nodes_room;
       nodes_few = omega (arith, length-set nodes.records n written, is.nodes_few);
@@ -99,9 +96,8 @@ module _ (nodes : Table) (arcs : Pool) (root : NodeId) (room : Room) (is : IsSto
         ∙ sym (ap (greatest r.version) (own_part-push arcs.changed r.span 0 (omega (arith, is.changes, ends))))
 
     pub more_seen : (written : NodeRecord) → written ≡ longer (record_of nodes.records n)
-        → has nodes.active n ≡ marks_active (record_of nodes.records n).mark
-        → held_of (table_set nodes n written) more root room ≡ record (held_of nodes arcs root room) { graph = with_arcs (graph_of nodes.records arcs.arcs root) (record { number = n }) (arc_of added ∷ []) }
-    more_seen written is_written ring =
+        → held_of (table_kept nodes n written) more root room ≡ record (held_of nodes arcs root room) { graph = with_arcs (graph_of nodes.records arcs.arcs root) (record { number = n }) (arc_of added ∷ []) }
+    more_seen written is_written =
         let r = record_of nodes.records n in
         let below : n < length nodes.records = omega arith in
         let end = last_ends 0 0 (spans_of nodes.records) arcs.arcs is.laid n (last ∙ sym (length-map nodes.records (λ r. r.span))) in
@@ -124,7 +120,6 @@ module _ (nodes : Table) (arcs : Pool) (root : NodeId) (room : Room) (is : IsSto
         ∙ map-set_same (version_of (arcs.changed ++ 0 ∷ [])) nodes.records n no_node written (longer_version written is_written ends)
         ∙ map_same (version_of (arcs.changed ++ 0 ∷ [])) (version_of arcs.changed) no_node nodes.records (λ i within.
         ap (greatest (record_of nodes.records i).version) (own_part-push arcs.changed (record_of nodes.records i).span 0 (omega (arith, span_within nodes arcs root room is i within, is.changes)))) in
-        let turned : ring_with written.mark nodes.active n ≡ nodes.active = ap (λ m. ring_with m nodes.active n) mark ∙ ring_with-same r.mark nodes.active n ring in
         let graph : map (node_of more.arcs) (set nodes.records n written) ≡ changed_at n (λ node. record node { arcs = node.arcs ++ arc_of added ∷ [] }) (map (node_of arcs.arcs) nodes.records) =
         ap (λ all. map (node_of all) (set nodes.records n written)) grown ∙ changed ∙ ap (changed_at n (λ node. record node { arcs = node.arcs ++ arc_of added ∷ [] })) others in
         cc

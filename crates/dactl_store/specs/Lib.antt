@@ -3,5 +3,6 @@ pub mod Held
 pub mod Layout
 pub mod Notifying
 pub mod Redirecting
+pub mod Slots
 pub mod Start
 pub mod Table

@@ -1,5 +1,5 @@
 -- The table of nodes, as the store sees it.
-use Rattle.std.specs.Prelude.{◌≡◌, ℕ, ◌<◌, ◌≤◌, ◌^◌, Bool, List, slice_index_or, length}
+use Rattle.std.specs.Prelude.{◌≡◌, ℕ, ◌+◌, ◌<◌, ◌≤◌, ◌^◌, Bool, List, slice_index_or, length}
 use Rattle.dactl_active.specs.Ring.{Ring, has, inserted, without}
 use Rattle.dactl_model.specs.declared.graph.Label.TheVariants.{Symbol}
 use Rattle.dactl_model.specs.declared.graph.Mark.{Mark}
@@ -30,6 +30,14 @@ abbrev pub ring_with : Mark → List ℕ → ℕ → List ℕ
 ring_with Idle ring n = without ring n
 ring_with Active ring n = inserted ring n
 ring_with (Waiting k) ring n = without ring n
+
+-- the record with another mark
+abbrev pub marked : Mark → NodeRecord → NodeRecord
+marked mark r = record r { mark = mark }
+
+-- the record with a further arc
+abbrev pub longer : NodeRecord → NodeRecord
+longer r = record r { span = record { first = r.span.first; count = r.span.count + 1 } }
 
 -- what holds of every table: the ring has the active nodes and no others
 pub record IsValidTable (table : Table) : Type 0 where

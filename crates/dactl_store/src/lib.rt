@@ -6,6 +6,7 @@ mod contractum;
 mod notify;
 mod reading;
 mod redirect;
+mod slot;
 mod start;
 mod store;
 mod table;

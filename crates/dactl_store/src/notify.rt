@@ -10,7 +10,7 @@ ghost use Rattle.dactl_store.specs.Table.{record_of};
 ghost use Rattle.dactl_store.specs.Notifying.{HasOwners, HasNotified, AreNotified, IsWokenList, wakes_owner};
 
 use crate::store::Store;
-use crate::table::{NodeRecord, NodeTable};
+use crate::table::NodeTable;
 use dactl_arcs::ArcPool;
 use dactl_model::footprint::Woken;
 use dactl_model::graph::{Mark, NodeId};
@@ -39,10 +39,10 @@ fn notify_owner(nodes: &mut NodeTable, owner: u32, woken: &mut Woken)
     requires room { IsTrue (wakes_owner owner nodes.old.records) → length woken.old.list < woken.old.room }
     ensures { HasNotified owner nodes.old woken.old nodes.new woken.new }
 {
-    let node = nodes.get(owner);
-    let mark = mark_after(node.mark);
-    nodes.set(owner, NodeRecord { mark, ..node });
-    if is_woken(node.mark, mark) {
+    let before = nodes.get(owner).mark;
+    let after = mark_after(before);
+    nodes.set_mark(owner, after);
+    if is_woken(before, after) {
         woken.push(NodeId { number: owner });
     }
 }

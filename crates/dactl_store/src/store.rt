@@ -2,9 +2,9 @@
 
 ghost use Rattle.std.specs.Prelude.{◌≡◌, ◌+◌, ◌<◌, ◌≤◌, ◌^◌, [], ◌∷◌, ◌++◌, length, map, slice_get, Some, IfOk, MatchOption, MatchBool};
 ghost use Rattle.dactl_active.specs.Ring.{turned};
-ghost use Rattle.dactl_model.specs.Graphs.{HasNode, HasArity};
+ghost use Rattle.dactl_model.specs.Graphs.{HasNode};
 ghost use Rattle.dactl_model.specs.Matching.{IsActive};
-ghost use Rattle.dactl_model.specs.Ending.{IsPassive, arcs_of};
+ghost use Rattle.dactl_model.specs.Ending.{IsPassive};
 ghost use Rattle.dactl_store.specs.Table.{ring_with};
 ghost use Rattle.dactl_store.specs.Held.{IsValid, HasActive, left_in, with_node, with_mark, with_arcs, node_with, arc_to, HasFreeNode, HasFreeArc, IsLast};
 
@@ -111,8 +111,7 @@ impl Store {
           active = ring_with mark self.old.active n.number;
         } }
     {
-        let node = self.nodes.get(n.number);
-        self.nodes.set(n.number, NodeRecord { mark, ..node });
+        self.nodes.set_mark(n.number, mark);
     }
 
     /// Adds a node without arcs at the end.
@@ -146,13 +145,8 @@ impl Store {
         requires target { target.number < self.old.room.nodes }
         ensures { self.new ≡ record self.old { graph = with_arcs self.old.graph owner (arc_to target waits ∷ []) } }
     {
-        let node = self.nodes.get(owner.number);
         let added = self.arcs.add(owner.number, target.number, waits);
         let Ok(_) = added else { unreachable!() };
-        let span = Span {
-            count: node.span.count + 1,
-            ..node.span
-        };
-        self.nodes.set(owner.number, NodeRecord { span, ..node });
+        self.nodes.add_arc(owner.number);
     }
 }

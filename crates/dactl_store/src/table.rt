@@ -3,9 +3,9 @@
 ghost use Rattle.std.specs.Prelude.{◌≡◌, ◌+◌, ◌<◌, ◌≤◌, [], ◌∷◌, ◌++◌, length, slice_get, slice_set, Some, IfOk};
 ghost use Rattle.dactl_active.specs.Ring.{has, turned};
 ghost use Rattle.dactl_model.specs.Acts.{marks_active};
-ghost use Rattle.dactl_model.specs.Noting.{noted_mark};
-ghost use Rattle.dactl_store.specs.Table.{record_of, is_active, ring_with, IsValidTable};
+ghost use Rattle.dactl_store.specs.Table.{record_of, is_active, ring_with, marked, longer, IsValidTable};
 
+use crate::slot::Slot;
 use dactl_active::{Memory, Ring};
 use dactl_model::graph::{Label, Mark};
 use std::alloc::Global;
@@ -30,7 +30,7 @@ pub struct NodeRecord {
 /// The nodes by number, with room for so many, and those that are marked active in the order of a ring.
 #[derive(Drop)]
 pub struct NodeTable {
-    records: Vec<NodeRecord>,
+    records: Vec<Slot>,
     ring: Ring,
     room: u32,
 }
@@ -96,7 +96,7 @@ impl NodeTable {
         ensures ring { has self.now.active node ≡ marks_active result.mark }
         ensures valid { IsValidTable self.now }
     {
-        self.records[node as usize]
+        self.records[node as usize].node()
     }
 
     /// The active node at the front of the ring.
@@ -124,21 +124,31 @@ impl NodeTable {
         } }
     {
         let number = self.records.len() as u32;
-        self.records.push_reserved(node);
+        self.records.push_reserved(Slot::of(node));
         place(&mut self.ring, number, Mark::Idle, node.mark);
     }
 
-    /// Gives a node another record.
-    pub fn set(&mut self, node: u32, written: NodeRecord)
+    /// Gives a node another mark.
+    pub fn set_mark(&mut self, node: u32, mark: Mark)
         requires { node < length self.old.records }
-        ensures { self.new ≡ record {
-          records = slice_set self.old.records node written;
-          active = ring_with written.mark self.old.active node;
-          room = self.old.room;
+        ensures { self.new ≡ record self.old {
+          records = slice_set self.old.records node (marked mark (record_of self.old.records node));
+          active = ring_with mark self.old.active node;
         } }
     {
-        let before = self.records[node as usize].mark;
-        self.records[node as usize] = written;
-        place(&mut self.ring, node, before, written.mark);
+        let before = self.records[node as usize].node().mark;
+        self.records[node as usize].set_mark(mark);
+        place(&mut self.ring, node, before, mark);
+    }
+
+    /// A node has one arc more.
+    pub fn add_arc(&mut self, node: u32)
+        requires node { node < length self.old.records }
+        requires few { (record_of self.old.records node).span.count < 16 }
+        ensures { self.new ≡ record self.old {
+          records = slice_set self.old.records node (longer (record_of self.old.records node));
+        } }
+    {
+        self.records[node as usize].add_arc();
     }
 }
