@@ -1,0 +1,5 @@
+use Rattle.dactl_resume.proofs.Canonical.{restriction_is_idle_beside}
+use Rattle.dactl_resume.proofs.laws.restriction_is_idle_beside.Goals as goal
+
+pub returns : goal.returns
+returns c = restriction_is_idle_beside

@@ -1,0 +1,12 @@
+pub mod Places
+pub mod Matched
+pub mod Allowing
+pub mod After
+pub mod FireKept
+pub mod NoteKept
+pub mod StepKept
+pub mod Beside
+pub mod StepBoth
+pub mod Runs
+pub mod Composing
+pub mod ByRules
