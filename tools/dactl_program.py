@@ -6,7 +6,7 @@ import sys
 TOP = pathlib.Path(__file__).resolve().parent.parent
 BUILT = TOP / "crates" / "dactl_cli" / "out" / "dactl_cli"
 CODES = {"normal": 0, "ok": 0, "budget": 1, "usage:": 2, "refused": 3, "full": 4, "read": 5, "memory": 7, "too": 8,
-         "small": 9}
+         "small": 9, "valid": 0, "invalid": 11, "missing": 12, "bad": 13, "no": 14}
 
 
 def program_or_end(path):

@@ -14,7 +14,7 @@ use Rattle.dactl_settings.specs.Limits.{IsUpTo, IsWithinLimits}
 use Rattle.dactl_settings.specs.Reading.{fits, found_in, is_number, settings_in, settings_of, takes}
 use Rattle.dactl_settings.specs.declared.settings.Settings.{Settings}
 use Rattle.dactl_settings.specs.declared.fault.UsageFault.{UsageFault}
-use Rattle.dactl_settings.specs.declared.fault.UsageFault.TheVariants.{Words, Number, Memory}
+use Rattle.dactl_settings.specs.declared.fault.UsageFault.TheVariants.{Words, Number, Both, Memory}
 
 number_up_to : (greatest : ℕ) (text : Text) → is_number greatest text ≡ true → IsUpTo greatest (digits_value 10 text)
 number_up_to greatest text is =
@@ -41,25 +41,31 @@ each p a b c d all =
     let three = both (p c) (p d && true) two.1 in
     (one.0, two.0, three.0, (both (p d) true three.1).0)
 
-within_rows : (rows : List Row) → list_all (fits rows) options ≡ true → IsWithinLimits (settings_in rows)
-within_rows rows all =
+-- both exclusive flags are asked for
+abbrev asks : Settings → Bool
+asks s = s.verify && s.resume
+
+within_rows : (rows : List Row) → list_all (fits rows) options ≡ true → asks (settings_in rows) ≡ false → IsWithinLimits (settings_in rows)
+within_rows rows all one =
     let fit = each (fits rows) (codes "workers", 16) (codes "budget", 4000000) (codes "nodes", 2000000) (codes "sample", 20000) all in
     record {
       workers = given_or 16 4 (first_of (codes "workers") rows) (omega arith, omega arith) fit.0;
       budget = given_or 4000000 1000000 (first_of (codes "budget") rows) (omega arith, omega arith) fit.1;
       nodes = given_or 2000000 200000 (first_of (codes "nodes") rows) (omega arith, omega arith) fit.2;
       sample = given 20000 (first_of (codes "sample") rows) fit.3;
+      one = one;
     }
 
 within : (words : List Text) → IfOk (settings_of words) IsWithinLimits
 unfolding settings_of
-within words = go (takes words) (list_all (fits (found_in words)) options) refl
+within words = go (takes words) (list_all (fits (found_in words)) options) (asks (settings_in (found_in words))) refl refl
   where
-    go : (taken all : Bool) → list_all (fits (found_in words)) options ≡ all
-        → IfOk (if taken then (if all then Ok (settings_in (found_in words)) else Err Number) else Err Words) IsWithinLimits
-    go true true fit = within_rows (found_in words) fit
-    go true false fit = tt
-    go false all fit = tt
+    go : (taken all both : Bool) → list_all (fits (found_in words)) options ≡ all → asks (settings_in (found_in words)) ≡ both
+        → IfOk (if taken then (if all then (if both then Err Both else Ok (settings_in (found_in words))) else Err Number) else Err Words) IsWithinLimits
+    go true true false fit one = within_rows (found_in words) fit one
+    go true true true fit one = tt
+    go true false both fit one = tt
+    go false all both fit one = tt
 
 -- settings that words come to are within the limits
 pub answered : (words : List Text) (r : Result Settings UsageFault) → (r ≡ settings_of words) ⊎ (r ≡ Err Memory) → IfOk r IsWithinLimits

@@ -10,7 +10,7 @@ use Rattle.clap.specs.Words.{Row, Text, fault_of, first_of, matches_of}
 use Rattle.dactl_settings.specs.Command.{command, options}
 use Rattle.dactl_settings.specs.declared.settings.Settings.{Settings}
 use Rattle.dactl_settings.specs.declared.fault.UsageFault.{UsageFault}
-use Rattle.dactl_settings.specs.declared.fault.UsageFault.TheVariants.{Words, Number}
+use Rattle.dactl_settings.specs.declared.fault.UsageFault.TheVariants.{Words, Number, Both}
 
 -- the text is one decimal digit or more, and their number is from 1 to the greatest
 abbrev pub is_number : ℕ → Text → Bool
@@ -37,11 +37,18 @@ settings_in rows = record {
   trace = has_flag rows (codes "trace");
   check = has_flag rows (codes "check");
   sample = number_of rows (codes "sample");
+  verify = has_flag rows (codes "verify");
+  resume = has_flag rows (codes "resume");
+  steal = has_flag rows (codes "steal");
 }
 
--- the same, where each number fits its option
+-- the settings, where they do not ask both for the check of a trace and for a start from a graph
+abbrev pub unless_both : Settings → Result Settings UsageFault
+unless_both s = if s.verify && s.resume then Err Both else Ok s
+
+-- the settings of what the command finds, where each number fits its option and not both of these are asked for
 abbrev pub checked_settings : List Row → Result Settings UsageFault
-checked_settings rows = if list_all (fits rows) options then Ok (settings_in rows) else Err Number
+checked_settings rows = if list_all (fits rows) options then unless_both (settings_in rows) else Err Number
 
 -- the command takes the words: `clap` finds no fault in them
 unfoldable pub takes : List Text → Bool
@@ -51,6 +58,6 @@ takes words = is_empty (fault_of command words)
 unfoldable pub found_in : List Text → List Row
 found_in words = matches_of command words
 
--- what the words come to: settings, words that the command does not take, or a text that is no number of its option
+-- what the words come to: settings, words that the command does not take, a text that is no number of its option, or two flags that exclude each other
 unfoldable pub settings_of : List Text → Result Settings UsageFault
 settings_of words = if takes words then checked_settings (found_in words) else Err Words

@@ -34,5 +34,8 @@ pub fn command<'a>(alloc: Global) -> Result<Command<'a>, AllocError>
         .arg(option(alloc, "nodes"))?
         .arg(option(alloc, "sample"))?
         .arg(flag(alloc, "trace"))?
-        .arg(flag(alloc, "check"))
+        .arg(flag(alloc, "check"))?
+        .arg(flag(alloc, "verify"))?
+        .arg(flag(alloc, "resume"))?
+        .arg(flag(alloc, "steal"))
 }

@@ -18,6 +18,9 @@ pub enum UsageFault {
     /// The text of an option is no number in its range.
     #[error("the text of an option is no number in its range")]
     Number,
+    /// The flags `--verify` and `--resume` stand together, in words that would else be settings.
+    #[error("only one of --verify and --resume may stand")]
+    Both,
     #[error("out of memory")]
     Memory,
 }

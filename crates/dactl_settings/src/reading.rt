@@ -63,6 +63,17 @@ fn has_flag(matches: &ArgMatches<'_>, name: &str) -> bool
     }
 }
 
+// The settings, where they do not ask both for the check of a trace and for a start from a graph.
+fn unless_both(settings: Settings) -> Result<Settings, UsageFault>
+    ensures { result ≡ spec.unless_both settings }
+{
+    if settings.verify && settings.resume {
+        Err(UsageFault::Both)
+    } else {
+        Ok(settings)
+    }
+}
+
 // The settings of the words that the command has matched.
 fn settings_in(matches: &ArgMatches<'_>) -> Result<Settings, UsageFault>
     ensures { result ≡ spec.checked_settings (rows_of (found_of matches.now)) }
@@ -71,13 +82,16 @@ fn settings_in(matches: &ArgMatches<'_>) -> Result<Settings, UsageFault>
     let budget = number_of(matches, "budget", 4_000_000)?.unwrap_or(1_000_000);
     let nodes = number_of(matches, "nodes", 2_000_000)?.unwrap_or(200_000);
     let sample = number_of(matches, "sample", 20_000)?;
-    Ok(Settings {
+    unless_both(Settings {
         workers: workers as u8,
         budget,
         nodes,
         trace: has_flag(matches, "trace"),
         check: has_flag(matches, "check"),
         sample,
+        verify: has_flag(matches, "verify"),
+        resume: has_flag(matches, "resume"),
+        steal: has_flag(matches, "steal"),
     })
 }
 

@@ -15,4 +15,11 @@ pub struct Settings {
     pub check: bool,
     /// The number of leaves of the sample text that stands for the input, from 1 to 20,000.
     pub sample: Option<u32>,
+    /// Whether the input is a text and a trace, which is checked as a journal of its program. It
+    /// and `resume` are never both set.
+    pub verify: bool,
+    /// Whether the input is a text and a printed graph, from which its program starts.
+    pub resume: bool,
+    /// Whether each worker keeps its own nodes and takes those of others where it has none.
+    pub steal: bool,
 }

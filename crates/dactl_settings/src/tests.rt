@@ -8,6 +8,9 @@ const USUAL: Settings = Settings {
     trace: false,
     check: false,
     sample: None,
+    verify: false,
+    resume: false,
+    steal: false,
 };
 
 // The words between the bars of a line, behind the program's name.
@@ -88,7 +91,28 @@ fn words_have_their_settings(rt: HostRuntime) -> Result<(), AllocError> {
             },
         ),
         (
-            "--check|--nodes|9|--trace|--workers=2|--sample|8|--budget|7",
+            "--verify",
+            Settings {
+                verify: true,
+                ..USUAL
+            },
+        ),
+        (
+            "--resume",
+            Settings {
+                resume: true,
+                ..USUAL
+            },
+        ),
+        (
+            "--steal",
+            Settings {
+                steal: true,
+                ..USUAL
+            },
+        ),
+        (
+            "--check|--nodes|9|--trace|--verify|--steal|--workers=2|--sample|8|--budget|7",
             Settings {
                 workers: 2,
                 budget: 7,
@@ -96,6 +120,9 @@ fn words_have_their_settings(rt: HostRuntime) -> Result<(), AllocError> {
                 trace: true,
                 check: true,
                 sample: Some(8),
+                verify: true,
+                resume: false,
+                steal: true,
             },
         ),
     ] {
@@ -138,6 +165,7 @@ fn texts_outside_their_range_are_no_numbers(rt: HostRuntime) -> Result<(), Alloc
         "--nodes|1_000",
         "--nodes|\u{0661}",
         "--trace|--sample|x|--workers|2",
+        "--verify|--resume|--nodes|0",
     ] {
         let words = words_of(rt.alloc(), line)?;
         assert_eq!(rt;
@@ -173,11 +201,26 @@ fn other_words_are_refused(rt: HostRuntime) -> Result<(), AllocError> {
         "--nodes|5|6",
         "--nodes|5|--nodes=5",
         "--workers|17|--loud",
+        "--fun",
+        "--verify|--resume|--loud",
     ] {
         let words = words_of(rt.alloc(), line)?;
         assert_eq!(rt;
             read_settings(rt.alloc(), words.as_slice()),
             Err(UsageFault::Words),
+            "{line}"
+        );
+    }
+    Ok(())
+}
+
+#[test]
+fn only_one_of_verify_and_resume_stands(rt: HostRuntime) -> Result<(), AllocError> {
+    for line in ["--verify|--resume", "--resume|--check|--verify|--nodes|5"] {
+        let words = words_of(rt.alloc(), line)?;
+        assert_eq!(rt;
+            read_settings(rt.alloc(), words.as_slice()),
+            Err(UsageFault::Both),
             "{line}"
         );
     }

@@ -8,7 +8,7 @@ use Rattle.dactl_settings.specs.declared.fault.UsageFault.{UsageFault}
 use Rattle.dactl_settings.specs.declared.fault.UsageFault.TheVariants as fault
 use Rattle.dactl_top.specs.declared.input.Input.TheVariants as input
 use Rattle.dactl_top.specs.declared.outcome.Outcome.{Outcome}
-use Rattle.dactl_top.specs.declared.outcome.Outcome.TheVariants.{Usage, ReadFault, TooLong, Memory, Refused, Checked, Small, Ran}
+use Rattle.dactl_top.specs.declared.outcome.Outcome.TheVariants.{Usage, ReadFault, TooLong, Memory, NoPart, Refused, Checked, BadGraph, Small, Judged, Ran}
 use Rattle.dactl_top.specs.Devices.{SourceChange, IsUnread}
 use Rattle.dactl_top.specs.Input.{HasTaken, IsFailedText, IsLongText}
 use Rattle.dactl_top.specs.Given.{Given, given, HasSettings, IsText, HasReadFault, HasLongText, HasMemory}
@@ -30,6 +30,9 @@ text_cause : (g : Given) (s : Settings) (outcome : Outcome) → HasSettings g s 
 text_cause g s (Refused refusal line) has text comes = record { settings = s; has = has; text = text; says = comes }
 text_cause g s (Checked p) has text comes = record { settings = s; has = has; text = text; says = comes }
 text_cause g s (Small p line) has text comes = record { settings = s; has = has; text = text; says = comes }
+text_cause g s NoPart has text comes = record { settings = s; has = has; text = text; says = comes }
+text_cause g s (BadGraph p bad line) has text comes = record { settings = s; has = has; text = text; says = comes }
+text_cause g s (Judged p verdict journal line) has text comes = record { settings = s; has = has; text = text; says = comes }
 text_cause g s (Ran run trace numbering) has text comes = record { settings = s; has = has; text = text; says = comes }
 text_cause g s Memory has text comes = text_unread g s has text
 text_cause g s Usage has text comes = absurd comes

@@ -1,5 +1,5 @@
 -- The headline: what stands whenever a call answers that a program ran.
-use Rattle.std.specs.Prelude.{◌≡◌, ℕ, ◌++◌, List, length, Some}
+use Rattle.std.specs.Prelude.{◌≡◌, ℕ, ◌++◌, List, length, Some, false}
 use Rattle.dactl_model.specs.declared.graph.Graph.{Graph}
 use Rattle.dactl_model.specs.declared.graph.End.{End}
 use Rattle.dactl_model.specs.declared.program.Program.{Program}
@@ -13,6 +13,7 @@ use Rattle.dactl_top.specs.Devices.{Took}
 use Rattle.dactl_top.specs.Given.{HasSettings, IsText}
 use Rattle.dactl_top.specs.Calls.{Call, given_of}
 use Rattle.dactl_top.specs.Outcomes.{status_of_end, trace_if}
+use Rattle.dactl_top.specs.Parts.{Runs}
 use Rattle.dactl_top.specs.Running.{limits_of, IsRun}
 
 -- the answer is normal, budget or full
@@ -22,18 +23,20 @@ IsOfRun Budget = Unit {0}
 IsOfRun Full = Unit {0}
 IsOfRun _ = ⊥
 
--- Whatever the source text, and however many workers interleave, the journal is a reduction of the relation of the text's program from that
--- program's first graph. The answer is the end that holds after it, and the bytes written are exactly that answer, the journal if traced,
--- and the graph after it, below its root.
+-- Whatever the input, and however many workers interleave, the journal is a reduction of the relation of the program of its text
+-- part, from that program's first graph. The answer is the end that holds after it, and the bytes written are exactly that answer, the
+-- journal if traced, and the graph after it, below its root.
 pub record IsRunOfText (call : Call) : Type 0 where
-  -- the settings are those of the words, and the text is all that the source gave, or the sample text
+  -- the settings are those of the words, and the input is all that the source gave, or the sample text
   pub settings : Settings
   pub has_settings : HasSettings (given_of call) settings
   pub has_text : IsText (given_of call) settings.sample
-  -- the program is what the text means
+  -- no trace was to be checked, and the program is what the text part of the input means, with the graph that is read from the rest in place
+  -- of its start where the run was to go on from one
+  pub unasked : settings.verify ≡ false
   pub program : Program
   pub is_program : call.kept.program ≡ Some program
-  pub means : MeansProgram call.kept.text.items program
+  pub runs : Runs MeansProgram settings call.kept.text.items program
   -- the journal is that of a run of it, within the limits, and the reports are those of its workers
   pub graph : Graph
   pub ended : End

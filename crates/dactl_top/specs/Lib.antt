@@ -1,9 +1,9 @@
 pub mod Lines
 pub mod Devices
 pub mod Input
+pub mod Parts
 pub mod Compiling
 pub mod Given
-pub mod Reports
 pub mod Running
 pub mod Outcomes
 pub mod Calls
@@ -12,3 +12,4 @@ pub mod Exact
 pub mod Reasons
 pub mod Laws
 pub mod Preparing
+pub mod Telling

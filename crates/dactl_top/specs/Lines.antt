@@ -4,8 +4,10 @@ use Rattle.dactl_base.specs.declared.refusal.Kind.{Kind}
 use Rattle.dactl_base.specs.declared.refusal.Kind.TheVariants as kinds
 use Rattle.dactl_base.specs.declared.refusal.Refusal.{Refusal}
 use Rattle.dactl_model.specs.declared.graph.Room.{Room}
+use Rattle.dactl_verify.specs.declared.verdict.Verdict.{Verdict}
+use Rattle.dactl_verify.specs.declared.verdict.Verdict.TheVariants as verdicts
 use Rattle.dactl_top.specs.declared.status.Status.{Status}
-use Rattle.dactl_top.specs.declared.status.Status.TheVariants.{Normal, Checked, Budget, Usage, Refused, Full, ReadFault, WriteFault, Memory, TooLong, Small}
+use Rattle.dactl_top.specs.declared.status.Status.TheVariants.{Normal, Checked, Budget, Usage, Refused, Full, ReadFault, WriteFault, Memory, TooLong, Small, Verified, Invalid, NoPart, BadGraph, NoRoom}
 
 -- what the process ends with
 abbrev pub code_of : Status → ℕ
@@ -20,10 +22,30 @@ code_of WriteFault = 6
 code_of Memory = 7
 code_of TooLong = 8
 code_of Small = 9
+code_of Verified = 0
+code_of Invalid = 11
+code_of NoPart = 12
+code_of BadGraph = 13
+code_of NoRoom = 14
 
 -- the line that tells what the first graph needs
 abbrev pub small_line : Room → List ℕ
 small_line needed = codes "small " ++ decimal needed.nodes ++ codes " " ++ decimal needed.arcs ++ codes "\n"
+
+-- the line of a word and a number
+abbrev pub number_line : List ℕ → ℕ → List ℕ
+number_line word number = word ++ decimal number ++ codes "\n"
+
+-- the line that tells which line of a printed graph is bad
+abbrev pub bad_graph_line : ℕ → List ℕ
+bad_graph_line line = number_line (codes "bad graph ") line
+
+-- the line that tells what the check of a trace found, after so many entries
+abbrev pub verdict_line : Verdict → ℕ → List ℕ
+verdict_line verdicts.Valid entries = number_line (codes "valid ") entries
+verdict_line (verdicts.Wrong line) entries = number_line (codes "invalid ") line
+verdict_line (verdicts.Full line node rule needed left) entries = number_line (codes "no room ") entries
+verdict_line (verdicts.Small needed left) entries = small_line needed
 
 -- the name of a kind of fault
 abbrev pub kind_name : Kind → List ℕ

@@ -14,13 +14,15 @@ use std::alloc::Global;
 pub struct Kept {
     /// What the words ask for, where they are settings.
     pub settings: Option<Settings>,
-    /// The bytes that were read, or the sample text.
+    /// All bytes that were read, or the sample text.
     pub text: Vec<u8>,
-    /// Why the text is refused, where it is.
+    /// Why the text part of them is refused, where it is.
     pub refusal: Option<Refusal>,
-    /// What the text means, where it is a program.
+    /// What the text part means, where it is a program; where a run goes on from a graph, with that
+    /// graph in place of the start.
     pub program: Option<Program>,
-    /// The entries of the run, in their order.
+    /// The entries of the run, in their order, or those of a trace that was checked, up to the
+    /// line at which the check stopped.
     pub journal: Vec<Entry>,
     /// How the run ended, where one ran.
     pub end: Option<End>,

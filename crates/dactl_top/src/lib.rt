@@ -3,13 +3,13 @@
 
 pub mod call;
 mod compile;
-mod crew;
 mod input;
 pub mod kept;
 pub mod laws;
 mod lines;
 mod outcome;
 mod output;
+mod parting;
 mod prepare;
 pub mod status;
 mod steps;
@@ -23,6 +23,8 @@ mod compile_tests;
 mod device_tests;
 #[cfg(test)]
 mod limit_tests;
+#[cfg(test)]
+mod parts_tests;
 #[cfg(test)]
 mod refusal_tests;
 #[cfg(test)]

@@ -1,25 +1,11 @@
 //! What comes of a call before it is told.
 
 use dactl_base::refusal::Refusal;
-use dactl_model::graph::{End, Entry};
+use dactl_crew::EndedRun;
+use dactl_model::graph::Entry;
 use dactl_model::program::Program;
 use dactl_print::printer::Numbering;
-use dactl_store::Store;
-use dactl_workers::WorkerReport;
-
-/// A run that has ended.
-#[derive(Drop)]
-pub struct EndedRun {
-    pub program: Program,
-    /// The last graph.
-    pub store: Store,
-    pub journal: Vec<Entry>,
-    pub ended: End,
-    /// A report for each worker, in the order of their numbers.
-    pub reports: Vec<WorkerReport>,
-    /// How many nodes were left on the board.
-    pub left: u64,
-}
+use dactl_verify::Verdict;
 
 /// What comes of a call. To tell it takes no memory.
 #[derive(Drop)]
@@ -32,6 +18,8 @@ pub enum Outcome {
     TooLong,
     /// Memory was wanting.
     Memory,
+    /// The input lacks the marker line that the words ask for.
+    NoPart,
     /// The text is no program, as the line tells.
     Refused {
         refusal: Refusal,
@@ -39,9 +27,23 @@ pub enum Outcome {
     },
     /// The text is this program, and was only to be checked.
     Checked(Program),
+    /// A line of the graph from which the program was to go on is bad, as the other line tells.
+    BadGraph {
+        program: Program,
+        bad: u32,
+        line: Vec<u8>,
+    },
     /// The first graph does not fit, as the line tells.
     Small {
         program: Program,
+        line: Vec<u8>,
+    },
+    /// The trace was checked against the program, as the line tells. The journal is that of the
+    /// lines before the one at which the check stopped.
+    Judged {
+        program: Program,
+        verdict: Verdict,
+        journal: Vec<Entry>,
         line: Vec<u8>,
     },
     /// The program ran. Its trace is to be told or not, and printing takes the numbering.

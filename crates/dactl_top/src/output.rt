@@ -8,9 +8,9 @@ ghost use Rattle.dactl_top.specs.Outcomes.{run_text, trace_if};
 ghost use Rattle.dactl_top.specs.Preparing.{IsPrintable};
 ghost use Rattle.std.specs.Prelude.{◌≡◌};
 
-use crate::outcome::EndedRun;
 use dactl_base::sink::Sink;
 use dactl_base::source::Failed;
+use dactl_crew::EndedRun;
 use dactl_model::graph::Entry;
 use dactl_print::printer::{Numbering, flush, show, show_end, show_trace};
 

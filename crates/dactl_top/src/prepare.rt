@@ -1,35 +1,24 @@
 //! All that a run takes, made before it starts.
 
-ghost use Rattle.std.specs.Prelude.{◌≡◌, ◌*◌, IfOk, IfErr, length};
+ghost use Rattle.std.specs.Prelude.{◌≡◌, ◌*◌, IfOk, IfErr};
+ghost use Rattle.dactl_crew.specs.Preparing.{IsUnprepared};
 ghost use Rattle.dactl_model.specs.Programs.{IsValid};
 ghost use Rattle.dactl_settings.specs.Limits.{IsWithinLimits};
-ghost use Rattle.dactl_top.specs.Preparing.{IsPrepared, IsUnprepared};
+ghost use Rattle.dactl_top.specs.Preparing.{IsPrepared};
 ghost use Rattle.dactl_top.specs.Running as spec;
 
-use crate::crew::Crew;
-use dactl_decide::{Deciders, compile};
-use dactl_model::graph::{Limits, Room};
+pub use dactl_crew::Unprepared;
+use dactl_model::graph::Limits;
 use dactl_model::program::Program;
 use dactl_print::printer::Numbering;
 use dactl_settings::Settings;
-use dactl_state::{NotBegun, State};
-use dactl_store::BeginCause;
 use std::alloc::Global;
 
-/// All that a run takes.
+/// All that a run takes, and the numbering with which its last graph is printed.
 #[derive(Drop)]
 pub struct Prepared {
-    pub deciders: Deciders,
-    pub crew: Crew,
+    pub crew: dactl_crew::Prepared,
     pub numbering: Numbering,
-}
-
-/// Why a run cannot start.
-#[derive(Drop)]
-pub enum Unprepared {
-    /// The first graph of the program does not fit: it needs so much.
-    Small { program: Program, needed: Room },
-    Memory,
 }
 
 // Four arcs for each node.
@@ -49,29 +38,20 @@ pub fn prepare(alloc: Global, settings: Settings, program: Program) -> Result<Pr
     requires limits { IsWithinLimits settings }
     requires valid { IsValid program }
     ensures ok { IfOk result (IsPrepared settings program) }
-    ensures err { IfErr result (IsUnprepared settings program) }
+    ensures err { IfErr result (IsUnprepared program (spec.limits_of settings)) }
 {
-    let Ok(deciders) = compile(alloc, &program) else {
-        return Err(Unprepared::Memory);
-    };
-    let state = match State::begin(alloc, program, limits_of(settings)) {
-        Ok(state) => state,
-        Err(NotBegun { program, cause }) => {
-            return match cause {
-                BeginCause::Small { needed, left: _ } => Err(Unprepared::Small { program, needed }),
-                BeginCause::Memory => Err(Unprepared::Memory),
-            };
-        }
-    };
-    let Ok(crew) = Crew::gather(alloc, state, settings.workers, deciders.widest()) else {
-        return Err(Unprepared::Memory);
+    let crew = match dactl_crew::prepare(
+        alloc,
+        program,
+        limits_of(settings),
+        settings.workers,
+        settings.steal,
+    ) {
+        Ok(crew) => crew,
+        Err(unprepared) => return Err(unprepared),
     };
     let Ok(numbering) = Numbering::with_room(alloc, settings.nodes) else {
         return Err(Unprepared::Memory);
     };
-    Ok(Prepared {
-        deciders,
-        crew,
-        numbering,
-    })
+    Ok(Prepared { crew, numbering })
 }

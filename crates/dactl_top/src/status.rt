@@ -28,6 +28,16 @@ pub enum Status {
     TooLong,
     /// The first graph does not fit the room.
     Small,
+    /// The trace is a journal of the text's program, and its graphs fit the room.
+    Verified,
+    /// A line of the trace is not right after the lines before it.
+    Invalid,
+    /// The input lacks the marker line that the words ask for.
+    NoPart,
+    /// A line of the printed graph is bad.
+    BadGraph,
+    /// A line of the trace is right, and its firing does not fit what is left of the room.
+    NoRoom,
 }
 
 impl Status {
@@ -47,6 +57,11 @@ impl Status {
             Status::Memory => 7,
             Status::TooLong => 8,
             Status::Small => 9,
+            Status::Verified => 0,
+            Status::Invalid => 11,
+            Status::NoPart => 12,
+            Status::BadGraph => 13,
+            Status::NoRoom => 14,
         }
     }
 }

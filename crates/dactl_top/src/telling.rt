@@ -5,16 +5,19 @@ ghost use Rattle.dactl_print.specs.Lines.{IsGraphText};
 ghost use Rattle.dactl_top.specs.Calls.{HasNothing};
 ghost use Rattle.dactl_top.specs.Devices.{sink_change};
 ghost use Rattle.dactl_top.specs.Outcomes.{Gives, IsKept, IsTold, SameGiven};
-ghost use Rattle.dactl_top.specs.Outcomes.{run_text, status_of_end};
-ghost use Rattle.dactl_top.specs.Preparing.{IsPrintable, IsTellable};
+ghost use Rattle.dactl_top.specs.Outcomes.{run_text, status_of_end, status_of_verdict};
+ghost use Rattle.dactl_top.specs.Preparing.{IsPrintable};
+ghost use Rattle.dactl_top.specs.Telling.{IsTellable};
 
 use crate::kept::Kept;
-use crate::outcome::{EndedRun, Outcome};
+use crate::outcome::Outcome;
 use crate::output::write_run;
 use crate::status::Status;
 use dactl_base::sink::{Sink, write_all};
+use dactl_crew::EndedRun;
 use dactl_model::graph::End;
 use dactl_print::printer::Numbering;
+use dactl_verify::Verdict;
 
 // The answer that tells an end.
 fn status_of(ended: End) -> Status
@@ -24,6 +27,18 @@ fn status_of(ended: End) -> Status
         End::Normal => Status::Normal,
         End::Budget => Status::Budget,
         End::Full { .. } => Status::Full,
+    }
+}
+
+// The answer that tells what the check of a trace found.
+fn status_of_found(verdict: Verdict) -> Status
+    ensures { result ≡ status_of_verdict verdict }
+{
+    match verdict {
+        Verdict::Valid => Status::Verified,
+        Verdict::Wrong { .. } => Status::Invalid,
+        Verdict::Full { .. } => Status::NoRoom,
+        Verdict::Small { .. } => Status::Small,
     }
 }
 
@@ -88,6 +103,7 @@ pub fn conclude<K: Sink>(sink: &mut K, outcome: Outcome, kept: &mut Kept) -> Sta
         Outcome::ReadFault => give(sink, b"read fault\n", Status::ReadFault),
         Outcome::TooLong => give(sink, b"too long\n", Status::TooLong),
         Outcome::Memory => give(sink, b"memory\n", Status::Memory),
+        Outcome::NoPart => give(sink, b"missing part\n", Status::NoPart),
         Outcome::Refused { refusal, line } => {
             kept.refusal = Some(refusal);
             give(sink, line.as_slice(), Status::Refused)
@@ -96,9 +112,23 @@ pub fn conclude<K: Sink>(sink: &mut K, outcome: Outcome, kept: &mut Kept) -> Sta
             kept.program = Some(program);
             give(sink, b"ok\n", Status::Checked)
         }
+        Outcome::BadGraph { program, line, .. } => {
+            kept.program = Some(program);
+            give(sink, line.as_slice(), Status::BadGraph)
+        }
         Outcome::Small { program, line } => {
             kept.program = Some(program);
             give(sink, line.as_slice(), Status::Small)
+        }
+        Outcome::Judged {
+            program,
+            verdict,
+            journal,
+            line,
+        } => {
+            kept.program = Some(program);
+            kept.journal = journal;
+            give(sink, line.as_slice(), status_of_found(verdict))
         }
         Outcome::Ran {
             run,

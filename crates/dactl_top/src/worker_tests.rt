@@ -89,6 +89,11 @@ fn samples_are_added_by_any_workers(rt: HostRuntime) -> Result<(), AllocError> {
         ("--sample|5000|--workers|1", 1, large),
         ("--sample|1000|--workers|2", 2, middling),
         ("--sample|64|--workers|4", 4, "normal 317\n@1 2016\n"),
+        (
+            "--sample|64|--workers|4|--steal",
+            4,
+            "normal 317\n@1 2016\n",
+        ),
     ] {
         assert!(rt;
             is_added(&rt, rt.alloc(), words, workers, output)?,
@@ -122,6 +127,7 @@ fn woken_nodes_go_to_the_board(rt: HostRuntime) -> Result<(), AllocError> {
         "--sample|4",
         "--sample|4|--workers|1",
         "--sample|4|--workers|16",
+        "--sample|4|--steal",
     ] {
         let answered = called(&rt, rt.alloc(), words, "")?;
         assert!(rt; uses_the_board(&answered), "{words}");
@@ -217,6 +223,7 @@ fn workers_have_threads_of_their_own(rt: HostRuntime) -> Result<(), AllocError> 
     for (words, workers) in [
         ("--sample|64|--workers|2", 2),
         ("--sample|64|--workers|4", 4),
+        ("--sample|64|--workers|4|--steal", 4),
     ] {
         let meeting = Meeting::new(workers);
         let answered = called_at(&rt, rt.alloc(), words, "", &meeting)?;
@@ -235,10 +242,13 @@ fn bush(alloc: Global) -> Result<String, AllocError> {
     repeated(alloc, front, branch.as_str(), 16, back)
 }
 
-// Whether the board was full after so many nodes, and handed the others back.
-fn was_full(answered: &Answered) -> bool {
+// Whether the board handed so many of the nodes back, and gave all others out.
+fn handed_back(answered: &Answered, refused: u64) -> bool {
     let sums = sums_of(answered.kept.reports.as_slice());
-    sums.commits == 4_370 && sums.offered == 4_369 && sums.refused == 273 && sums.taken == 4_096
+    sums.commits == 4_370
+        && sums.offered == 4_369
+        && sums.refused == refused
+        && sums.taken == 4_369u64.wrapping_sub(refused)
 }
 
 // Whether no commit was refused, and nothing is left.
@@ -251,17 +261,32 @@ fn was_alone(answered: &Answered) -> bool {
     answered.kept.left == 0
 }
 
-// Nodes that the board hands back are found as active ones.
+// The answer to the bush by one worker.
+fn called_on_a_bush<R: Threads + Wait + Sync>(
+    rt: &R,
+    alloc: Global,
+    words: &str,
+) -> Result<Answered, AllocError> {
+    let text = bush(alloc)?;
+    let bytes = Vec::from_slice(alloc, text.as_bytes())?;
+    let source = MemorySource::new(bytes, 4_096, Vec::new(alloc));
+    let sink = MemorySink::new(alloc, 200_000, 4_096, Vec::new(alloc))?;
+    called_over(rt, alloc, words, source, sink)
+}
+
+// Nodes that a board with room for 4,096 hands back are found as active ones. The board with deques has room for all.
 #[test]
 fn a_full_board_hands_nodes_back(rt: HostRuntime) -> Result<(), AllocError> {
-    let text = bush(rt.alloc())?;
-    let bytes = Vec::from_slice(rt.alloc(), text.as_bytes())?;
-    let source = MemorySource::new(bytes, 4_096, Vec::new(rt.alloc()));
-    let sink = MemorySink::new(rt.alloc(), 200_000, 4_096, Vec::new(rt.alloc()))?;
-    let answered = called_over(&rt, rt.alloc(), "--workers|1", source, sink)?;
-    assert!(rt;
-        answered.status.code() == 0 && answered.sink.held().starts_with(b"normal 4370\n@1 T[")
-    );
-    assert!(rt; was_full(&answered) && was_alone(&answered));
+    for (words, refused) in [("--workers|1", 273), ("--workers|1|--steal", 0)] {
+        let answered = called_on_a_bush(&rt, rt.alloc(), words)?;
+        assert!(rt;
+            answered.status.code() == 0 && answered.sink.held().starts_with(b"normal 4370\n@1 T["),
+            "{words}"
+        );
+        assert!(rt;
+            handed_back(&answered, refused) && was_alone(&answered),
+            "{words}"
+        );
+    }
     Ok(())
 }

@@ -1,4 +1,5 @@
-use Rattle.dactl_top.proofs.Consequences.{answered, headline, exact, caused, keeps_faith}
+use Rattle.dactl_top.proofs.Consequences.{answered, headline, caused, keeps_faith}
+use Rattle.dactl_top.proofs.Exactness.{exact}
 use Rattle.dactl_top.proofs.call.dactl.Goals as goal
 
 pub returns-clause-headline : goal.returns-clause-headline

@@ -15,6 +15,9 @@ returns-in-TooLong-clause-told g c = rw c.in-TooLong.is (record { due = codes "t
 pub returns-in-Memory-clause-told : goal.returns-in-Memory-clause-told
 returns-in-Memory-clause-told g c = rw c.in-Memory.is (record { due = codes "memory\n"; is_due = refl; gives = c.give-in-Memory.ensures })
 
+pub returns-in-NoPart-clause-told : goal.returns-in-NoPart-clause-told
+returns-in-NoPart-clause-told g c = rw c.in-NoPart.is (record { due = codes "missing part\n"; is_due = refl; gives = c.give-in-NoPart.ensures })
+
 pub returns-in-Checked-clause-told : goal.returns-in-Checked-clause-told
 returns-in-Checked-clause-told g c = rw c.in-Checked.is (record { due = codes "ok\n"; is_due = refl; gives = c.give-in-Checked.ensures })
 

@@ -1,0 +1,5 @@
+pub mod Symbols
+pub mod Runs
+pub mod Offers
+pub mod Tallies
+pub mod Words

@@ -1,0 +1,58 @@
+-- An input has its parts in one way, and so its text part means one thing.
+use Rattle.std.proofs.Common.{◌≡◌, ℕ, ◌+◌, ◌<◌, List, length, take, drop, min, Some, None, sym, ap, ◌∙◌, subst, inl, inr, arith}
+use Rattle.std.specs.declared.option.Option.{Option}
+use Rattle.std.proofs.lemmas.Bool.{cases_lt}
+use Rattle.dactl_base.specs.declared.parts.Parts.{Parts}
+use Rattle.dactl_base.specs.declared.refusal.Refusal.{Refusal}
+use Rattle.dactl_base.specs.Parts.{AreParts}
+use Rattle.dactl_model.specs.declared.program.Program.{Program}
+use Rattle.dactl_settings.specs.declared.settings.Settings.{Settings}
+use Rattle.dactl_top.specs.Compiling.{IsProgramOf, IsFaultOf, MeansProgram, MeansFault}
+use Rattle.dactl_top.specs.Parts.{marker_of, IsParted, LacksPart, HasPart}
+
+neither : (x y : ℕ) → ¬ (x < y) → ¬ (y < x) → x ≡ y
+neither x y less more = elim (cases_lt x y) [
+  | inl is ↦ absurd (less is)
+  | inr past ↦ elim (cases_lt y x) [ inl is ↦ absurd (more is) | inr also ↦ omega (arith, past, also) ]
+]
+
+-- the first line that is the marker is one
+one_end : (input marker : List ℕ) (a b : Parts) → AreParts input marker a → AreParts input marker b → a.text_end ≡ b.text_end
+one_end input marker a b one two = neither a.text_end b.text_end (λ less. two.first a.text_end less one.line) (λ less. one.first b.text_end less two.line)
+
+one_rest : (input marker : List ℕ) (a b : Parts) → AreParts input marker a → AreParts input marker b → a.rest ≡ b.rest
+one_rest input marker a b one two = one.rest ∙ ap (λ n. min (n + length marker + 1) (length input)) (one_end input marker a b one two) ∙ sym two.rest
+
+-- an input has one text part and one rest
+pub one_parting : (marker : Option (List ℕ)) (input text other rest more : List ℕ) → IsParted marker input text rest → IsParted marker input other more → (text ≡ other) × (rest ≡ more)
+one_parting None input text other rest more one two = (one.0 ∙ sym two.0, one.1 ∙ sym two.1)
+one_parting (Some marker) input text other rest more one two = (
+  one.is_text ∙ ap (λ n. take n input) (one_end input marker one.parts two.parts one.are two.are) ∙ sym two.is_text,
+  one.is_rest ∙ ap (λ n. drop n input) (one_rest input marker one.parts two.parts one.are two.are) ∙ sym two.is_rest,
+)
+
+-- an input that has parts lacks none
+pub lacks_none : (marker : Option (List ℕ)) (input text rest : List ℕ) → IsParted marker input text rest → LacksPart marker input → ⊥
+lacks_none None input text rest is lacks = lacks
+lacks_none (Some marker) input text rest is lacks = lacks is.parts.text_end is.are.line
+
+pub same_part : (s : Settings) (input rest more : List ℕ) (One Two : List ℕ → Type 0) (one : HasPart s input rest One) (two : HasPart s input more Two) → (one.text ≡ two.text) × (rest ≡ more)
+same_part s input rest more One Two one two = one_parting (marker_of s) input one.text two.text rest more one.parted two.parted
+
+-- a text part that means a program is no other program's
+pub same_program : (s : Settings) (input rest more : List ℕ) (p q : Program) → HasPart s input rest (λ text. MeansProgram text p) → HasPart s input more (λ text. IsProgramOf text q) → p ≡ q
+same_program s input rest more p q one two =
+    let same = same_part s input rest more (λ text. MeansProgram text p) (λ text. IsProgramOf text q) one two in
+    one.says.only q (subst (λ t. IsProgramOf t q) (sym same.0) two.says)
+
+-- and it has no fault
+pub no_fault : (s : Settings) (input rest more : List ℕ) (p : Program) (r : Refusal) → HasPart s input rest (λ text. MeansProgram text p) → HasPart s input more (λ text. IsFaultOf text r) → ⊥
+no_fault s input rest more p r one two =
+    let same = same_part s input rest more (λ text. MeansProgram text p) (λ text. IsFaultOf text r) one two in
+    one.says.faultless r (subst (λ t. IsFaultOf t r) (sym same.0) two.says)
+
+-- a text part with a first fault is no program's
+pub no_program : (s : Settings) (input rest more : List ℕ) (r : Refusal) (p : Program) → HasPart s input rest (λ text. MeansFault text r) → HasPart s input more (λ text. IsProgramOf text p) → ⊥
+no_program s input rest more r p one two =
+    let same = same_part s input rest more (λ text. MeansFault text r) (λ text. IsProgramOf text p) one two in
+    one.says.none p (subst (λ t. IsProgramOf t p) (sym same.0) two.says)
