@@ -1,0 +1,15 @@
+DATA X, Number, Plus, Times;
+Derive[X] = Number[1];
+Derive[Number[n]] = Number[0];
+Derive[Plus[a b]] = Sum[Derive[a] Derive[b]];
+Derive[Times[a b]] = Sum[Product[Derive[a] b] Product[a Derive[b]]];
+Sum[Number[0] b] = b;
+Sum[a Number[0]] = a;
+Sum[Number[m] Number[n]] = Number[IAdd[m n]];
+Sum[a b] = Plus[a b];
+Product[Number[0] b] = Number[0];
+Product[a Number[0]] = Number[0];
+Product[Number[1] b] = b;
+Product[a Number[1]] = a;
+Product[a b] = Times[a b];
+MAIN = Derive[Plus[Times[X Times[X X]] Plus[Times[Number[5] X] Number[7]]]];

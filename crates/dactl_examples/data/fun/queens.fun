@@ -1,0 +1,16 @@
+DATA Cons, Nil;
+Place[0 placed] = 1;
+Place[n placed] = Try[6 n placed];
+Try[0 n placed] = 0;
+Try[q n placed] = IAdd[Put[IsSafe[q 1 placed] q n placed] Try[ISub[q 1] n placed]];
+Put[False q n placed] = 0;
+Put[True q n placed] = Place[ISub[n 1] Cons[q placed]];
+IsSafe[q d Nil] = True;
+IsSafe[q d Cons[p rest]] = Row[IEq[q p] q p d rest];
+Row[True q p d rest] = False;
+Row[False q p d rest] = Up[IEq[q IAdd[p d]] q p d rest];
+Up[True q p d rest] = False;
+Up[False q p d rest] = Down[IEq[q ISub[p d]] q d rest];
+Down[True q d rest] = False;
+Down[False q d rest] = IsSafe[q IAdd[d 1] rest];
+MAIN = Place[6 Nil];

@@ -1,0 +1,17 @@
+DATA Leaf, Node, Cons, Nil, Answer;
+Insert[x Leaf] = Node[Leaf x Leaf];
+Insert[x Node[l y r]] = Go[ILt[x y] ILt[y x] x l y r];
+Go[True b x l y r] = Node[Insert[x l] y r];
+Go[False True x l y r] = Node[l y Insert[x r]];
+Go[False False x l y r] = Node[l y r];
+All[Nil tree] = tree;
+All[Cons[x t] tree] = All[t Insert[x tree]];
+Has[x Leaf] = False;
+Has[x Node[l y r]] = Look[ILt[x y] ILt[y x] x l r];
+Look[True b x l r] = Has[x l];
+Look[False True x l r] = Has[x r];
+Look[False False x l r] = True;
+InOrder[Leaf rest] = rest;
+InOrder[Node[l x r] rest] = InOrder[l Cons[x InOrder[r rest]]];
+Tell[tree] = Answer[Has[4 tree] Has[5 tree] InOrder[tree Nil]];
+MAIN = Tell[All[Cons[6 Cons[2 Cons[8 Cons[4 Cons[2 Cons[7 Nil]]]]]] Leaf]];

@@ -1,0 +1,12 @@
+DATA Cons, Nil;
+Upto[n m] = From[ILt[m n] n m];
+From[True n m] = Nil;
+From[False n m] = Cons[n Upto[IAdd[n 1] m]];
+Sieve[Nil] = Nil;
+Sieve[Cons[p t]] = Cons[p Sieve[Strike[p IMul[p 2] t]]];
+Strike[p k Nil] = Nil;
+Strike[p k Cons[h t]] = Compare[IEq[k h] ILt[k h] p k h t];
+Compare[True less p k h t] = Strike[p IAdd[k p] t];
+Compare[False True p k h t] = Strike[p IAdd[k p] Cons[h t]];
+Compare[False False p k h t] = Cons[h Strike[p k t]];
+MAIN = Sieve[Upto[2 30]];

@@ -1,0 +1,9 @@
+pub mod Names
+pub mod Values
+pub mod Meaning
+pub mod Translation
+pub mod Invariant
+pub mod Statements
+pub mod Functions
+pub mod Sound
+pub mod Spelt

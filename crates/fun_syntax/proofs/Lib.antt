@@ -1,0 +1,13 @@
+pub mod Sorts
+pub mod Fits
+pub mod Parts
+pub mod Growth
+pub mod Steps
+pub mod Values
+pub mod Answered
+pub mod Sooner
+pub mod Told
+pub mod Entries
+pub mod Layers
+pub mod Whole
+pub mod Declared

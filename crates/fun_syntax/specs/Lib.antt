@@ -1,0 +1,11 @@
+pub mod Sort
+pub mod Productions
+pub mod Seen
+pub mod Reading
+pub mod Answer
+pub mod Words
+pub mod Pieces
+pub mod Roles
+pub mod Least
+pub mod Faults
+pub mod Reads

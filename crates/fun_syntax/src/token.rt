@@ -1,0 +1,114 @@
+//! Tokens as the parser takes them, and steps over one of them.
+
+ghost use Rattle.std.specs.Prelude.{◌≡◌, ℕ, List, IfOk};
+ghost use Rattle.fun_syntax.specs.Sort.{same_sort};
+ghost use Rattle.dactl_grammar.specs.Reader.{head_is};
+ghost use Rattle.fun_syntax.specs.Productions.{name_of};
+ghost use Rattle.fun_syntax.specs.Reading.{by, read_sign};
+ghost use Rattle.dactl_grammar.specs.Giving.{Gives};
+ghost use Rattle.fun_syntax.specs.Seen.{between, word_of, seen, toks};
+
+use dactl_base::refusal::Place;
+use dactl_grammar::fault::{Fault, ReadError};
+use dactl_meaning::tree::Name;
+use sqlite_items::Items;
+use std::alloc::{AllocError, Global};
+
+/// What kind of token stands at a place.
+#[derive(Clone, Copy, Debug, PartialEq, Eq)]
+pub enum Sort {
+    Upper,
+    Lower,
+    Integer,
+    Data,
+    Main,
+    Open,
+    Close,
+    Semicolon,
+    Comma,
+    Equals,
+    /// A token that stands in no text of equations.
+    Foreign,
+}
+
+/// A token: its sort, its value if it is an integer, and where it stands in the text.
+#[derive(Clone, Copy, Debug)]
+pub struct Terminal {
+    pub sort: Sort,
+    pub value: i64,
+    pub from: u32,
+    pub to: u32,
+}
+
+#[tactic(auto, unfolding(crate::specs::Sort::same_sort))]
+pub fn same_sort(a: Sort, b: Sort) -> bool
+    ensures { result ≡ same_sort a b }
+{
+    a == b
+}
+
+/// The bytes from one place to another, as far as the text goes.
+#[tactic(auto, unfolding(crate::specs::Seen::between))]
+pub fn between(text: &[u8], from: u32, to: u32) -> &[u8]
+    ensures { result.now ≡ between text.now from to }
+{
+    let start = (from as usize).min(text.len());
+    let (_, rest) = text.split_at(start);
+    let len = rest.len().min(to.saturating_sub(from) as usize);
+    let (front, _) = rest.split_at(len);
+    front
+}
+
+/// The bytes of a token.
+fn word<'a>(text: &'a [u8], token: Terminal) -> &'a [u8]
+    ensures { result.now ≡ word_of text.now token }
+{
+    between(text, token.from, token.to)
+}
+
+/// Where a token stands.
+pub fn place_of(token: Terminal) -> Place
+    ensures { result ≡ record { byte = token.from } }
+{
+    Place { byte: token.from }
+}
+
+/// The name that a token spells.
+pub fn name_at(alloc: Global, text: &[u8], token: Terminal) -> Result<Name, AllocError>
+    ensures { IfOk result (λ name. name ≡ name_of (seen text.now token)) }
+{
+    Ok(Name {
+        text: Items::from_slice(alloc, word(text, token))?,
+        place: place_of(token),
+    })
+}
+
+/// Whether a token of this sort comes next.
+pub fn next_is(tokens: &[Terminal], sort: Sort) -> bool
+    ensures { (text : List ℕ) → result ≡ head_is (by (same_sort sort)) (toks text tokens.now) }
+{
+    match tokens {
+        [] => false,
+        [token, ..] => same_sort(sort, token.sort),
+    }
+}
+
+/// Reads one token of this sort.
+pub fn one<'a>(
+    text: &[u8],
+    tokens: &'a [Terminal],
+    sort: Sort,
+) -> Result<(Terminal, &'a [Terminal]), ReadError>
+    ensures { Gives (λ x. (seen text.now x.0, toks text.now x.1.now)) result (read_sign sort (toks text.now tokens.now)) }
+{
+    match tokens {
+        [] => Err(ReadError::Fault(Fault::Unexpected { left: 0 })),
+        [token, rest @ ..] => {
+            if same_sort(sort, token.sort) {
+                Ok((*token, rest))
+            } else {
+                Err(ReadError::Fault(Fault::Unexpected { left: tokens.len() }))
+            }
+        }
+    }
+}
