@@ -6,3 +6,6 @@ use Rattle.dactl_seats.proofs.crowd_tests.work_in_two.Goals as goal
 
 pub join-requires-send-F : goal.join-requires-send-F
 join-requires-send-F g c κs within = let r = c.type_bounds.sync-R in search (crosses, sendable, store_sync, deciders_sync, place_fields_send) depth 60 fits 20000
+
+pub join-requires-send-A : goal.join-requires-send-A
+join-requires-send-A g c κs within = search (crosses, sendable, place_fields_send) depth 60 fits 20000

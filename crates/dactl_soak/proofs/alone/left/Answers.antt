@@ -3,7 +3,7 @@ use Rattle.dactl_model.specs.Graphs.{IsWellFormed}
 use Rattle.dactl_model.specs.declared.program.Program.{Program}
 use Rattle.dactl_print.specs.Lines.{HasSymbolsOf}
 use Rattle.dactl_store.specs.Held.{Held}
-use Rattle.dactl_top.proofs.Runs.{course_formed, course_symbols}
+use Rattle.dactl_crew.proofs.Runs.{course_formed, course_symbols}
 use Rattle.dactl_soak.proofs.alone.left.Goals as goal
 
 pub returns-clause-formed : goal.returns-clause-formed
