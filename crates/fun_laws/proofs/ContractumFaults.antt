@@ -29,7 +29,7 @@ use Rattle.fun_meaning.specs.Values.{is_constructor, word}
 use Rattle.fun_compile.specs.Translated.{Put, bare, marked, arg_put, node_over, marks_for, waiting, checked, wrapped, made_put, put_level, put, top_of, top}
 use Rattle.dactl_meaning.specs.Unplaced.{nowhere}
 use Rattle.fun_meaning.specs.Sound.{sound_level, is_sound, narrow_level, is_narrow}
-use Rattle.fun_laws.proofs.Inducing.{Each, expr_induction}
+use Rattle.fun_meaning.proofs.Inducing.{Each, expr_induction}
 use Rattle.fun_laws.proofs.Heads.{among_left}
 use Rattle.fun_laws.proofs.Drawing.{drawn_puts, bare_draws, integer_draws, over_draws, checked_draws}
 use Rattle.fun_laws.proofs.Lists.{not_false, length_of_map, filter_none, flat_none}

@@ -33,7 +33,7 @@ use Rattle.fun_meaning.specs.Translation.{IsTerm, StandsNamed, StandsLevel, Stan
 use Rattle.fun_compile.specs.Translated.{Put, bare, marked, node_over, marks_for, waiting, checked, wrapped, made_put, put_level, put, top_of, top}
 use Rattle.dactl_meaning.specs.Unplaced.{nowhere}
 use Rattle.fun_meaning.specs.Sound.{sound_level, is_sound}
-use Rattle.fun_laws.proofs.Inducing.{Each, expr_induction}
+use Rattle.fun_meaning.proofs.Inducing.{Each, expr_induction}
 use Rattle.fun_laws.proofs.Standing.{Stands, stand_depth, Settled, settled_depth}
 use Rattle.fun_laws.proofs.Drawing.{drawn_puts, bare_draws, integer_draws, over_draws, checked_draws, IsAt, at_head, at_tail, at_left, at_right}
 use Rattle.fun_laws.proofs.Lists.{length_of_map}

@@ -1,6 +1,5 @@
 pub mod Lists
 pub mod Starred
-pub mod Inducing
 pub mod Standing
 pub mod Drawing
 pub mod DrawnStands

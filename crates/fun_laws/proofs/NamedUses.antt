@@ -29,7 +29,7 @@ use Rattle.fun_meaning.specs.Values.{is_constructor, word}
 use Rattle.fun_compile.specs.Translated.{pattern_level, pattern_tree, Put, bare, marked, arg_put, node_over, marks_for, waiting, checked, wrapped, made_put, put_level, put, top_of, top, root_name, value_name, truth_tree, rest_tree, check_tree}
 use Rattle.dactl_meaning.specs.Unplaced.{nowhere}
 use Rattle.fun_meaning.specs.Sound.{known_level, is_known, sound_level, is_sound}
-use Rattle.fun_laws.proofs.Inducing.{Each, expr_induction}
+use Rattle.fun_meaning.proofs.Inducing.{Each, expr_induction}
 use Rattle.fun_laws.proofs.Starred.{starred_marked, starred_bare}
 use Rattle.fun_meaning.proofs.Zips.{each_append}
 

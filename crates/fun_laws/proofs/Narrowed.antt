@@ -40,7 +40,7 @@ use Rattle.fun_meaning.specs.Spelt.{words_level, has_words, AreSpelt}
 use Rattle.fun_meaning.proofs.Matches.{both_true}
 use Rattle.fun_meaning.proofs.Zips.{each_map, each_append, each_weaken}
 use Rattle.fun_compile.specs.Translated.{pattern_level, pattern_tree, Put, bare, marked, arg_put, node_over, marks_for, waiting, checked, wrapped, made_put, put_level, put, top_of, top, root_name, value_name, equation_tree, rest_tree, truth_tree, check_tree, trees_of, groups_of, translated}
-use Rattle.fun_laws.proofs.Inducing.{Each, expr_induction}
+use Rattle.fun_meaning.proofs.Inducing.{Each, expr_induction}
 use Rattle.fun_laws.proofs.Starred.{starred_marked, starred_bare}
 use Rattle.fun_laws.proofs.NoRuleFaults.{placed_rule, rules_are}
 use Rattle.fun_laws.proofs.Whole.{items_by, items_are, initials_are}

@@ -23,7 +23,7 @@ use Rattle.fun_meaning.specs.Names.{Spelling}
 use Rattle.fun_meaning.specs.Values.{all_names, names_level, variables_of, word}
 use Rattle.fun_compile.specs.Translated.{pattern_level, pattern_tree}
 use Rattle.fun_meaning.specs.Sound.{known_level, is_known, narrow_level, is_narrow, size_level, size_of}
-use Rattle.fun_laws.proofs.Inducing.{Each, expr_induction}
+use Rattle.fun_meaning.proofs.Inducing.{Each, expr_induction}
 use Rattle.fun_laws.proofs.PatternsStand.{IsSeen, occurs_roll}
 use Rattle.fun_laws.proofs.Lists.{not_false, length_of_map}
 use Rattle.fun_meaning.proofs.Zips.{each_append}

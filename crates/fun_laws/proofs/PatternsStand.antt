@@ -25,7 +25,7 @@ use Rattle.fun_meaning.proofs.Zips.{zip_weaken}
 use Rattle.fun_meaning.proofs.Depths.{deeper}
 use Rattle.fun_compile.specs.Translated.{pattern_level, pattern_tree}
 use Rattle.fun_meaning.specs.Sound.{known_level, is_known}
-use Rattle.fun_laws.proofs.Inducing.{Each, expr_induction}
+use Rattle.fun_meaning.proofs.Inducing.{Each, expr_induction}
 use Rattle.fun_laws.proofs.DrawnStands.{number_place}
 
 -- ---- depths

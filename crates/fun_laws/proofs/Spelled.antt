@@ -31,7 +31,7 @@ use Rattle.dactl_meaning.specs.Unplaced.{nowhere}
 use Rattle.fun_meaning.specs.Functions.{first_ones}
 use Rattle.fun_meaning.specs.Spelt.{AreSpelt}
 use Rattle.fun_laws.proofs.Narrowed.{narrow_text}
-use Rattle.fun_laws.proofs.Inducing.{Each, expr_induction}
+use Rattle.fun_meaning.proofs.Inducing.{Each, expr_induction}
 use Rattle.fun_laws.proofs.SeenNames.{symbol_texts}
 use Rattle.fun_laws.proofs.NoRuleFaults.{placed_rule, rules_are}
 use Rattle.fun_laws.proofs.Whole.{initials_are}

@@ -1,0 +1,15 @@
+pub mod Empty
+pub mod Lists
+pub mod Roles
+pub mod SoundPieces
+pub mod SoundNames
+pub mod SoundUses
+pub mod Sound
+pub mod SmallTrees
+pub mod SmallCounts
+pub mod Small
+pub mod SpeltTokens
+pub mod Spelt
+pub mod LightTokens
+pub mod LightParts
+pub mod Light
