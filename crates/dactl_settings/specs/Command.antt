@@ -17,7 +17,7 @@ options = (codes "workers", 16) ∷ (codes "budget", 4000000) ∷ (codes "nodes"
 
 -- the names of the flags
 abbrev pub flags : List Text
-flags = codes "trace" ∷ codes "check" ∷ codes "verify" ∷ codes "resume" ∷ codes "steal" ∷ []
+flags = codes "trace" ∷ codes "check" ∷ codes "verify" ∷ codes "resume" ∷ codes "fun" ∷ codes "steal" ∷ []
 
 -- a command that takes no words, not even `--help`
 abbrev pub bare : App

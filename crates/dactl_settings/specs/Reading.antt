@@ -39,6 +39,7 @@ settings_in rows = record {
   sample = number_of rows (codes "sample");
   verify = has_flag rows (codes "verify");
   resume = has_flag rows (codes "resume");
+  fun = has_flag rows (codes "fun");
   steal = has_flag rows (codes "steal");
 }
 

@@ -37,5 +37,6 @@ pub fn command<'a>(alloc: Global) -> Result<Command<'a>, AllocError>
         .arg(flag(alloc, "check"))?
         .arg(flag(alloc, "verify"))?
         .arg(flag(alloc, "resume"))?
+        .arg(flag(alloc, "fun"))?
         .arg(flag(alloc, "steal"))
 }

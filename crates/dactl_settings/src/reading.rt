@@ -91,6 +91,7 @@ fn settings_in(matches: &ArgMatches<'_>) -> Result<Settings, UsageFault>
         sample,
         verify: has_flag(matches, "verify"),
         resume: has_flag(matches, "resume"),
+        fun: has_flag(matches, "fun"),
         steal: has_flag(matches, "steal"),
     })
 }

@@ -20,6 +20,8 @@ pub struct Settings {
     pub verify: bool,
     /// Whether the input is a text and a printed graph, from which its program starts.
     pub resume: bool,
+    /// Whether the text is a list of equations, and no list of modules.
+    pub fun: bool,
     /// Whether each worker keeps its own nodes and takes those of others where it has none.
     pub steal: bool,
 }

@@ -10,6 +10,7 @@ const USUAL: Settings = Settings {
     sample: None,
     verify: false,
     resume: false,
+    fun: false,
     steal: false,
 };
 
@@ -104,6 +105,7 @@ fn words_have_their_settings(rt: HostRuntime) -> Result<(), AllocError> {
                 ..USUAL
             },
         ),
+        ("--fun", Settings { fun: true, ..USUAL }),
         (
             "--steal",
             Settings {
@@ -122,7 +124,21 @@ fn words_have_their_settings(rt: HostRuntime) -> Result<(), AllocError> {
                 sample: Some(8),
                 verify: true,
                 resume: false,
+                fun: false,
                 steal: true,
+            },
+        ),
+        (
+            "--steal|--resume|--fun|--sample|1|--check|--trace|--workers|1",
+            Settings {
+                workers: 1,
+                trace: true,
+                check: true,
+                sample: Some(1),
+                resume: true,
+                fun: true,
+                steal: true,
+                ..USUAL
             },
         ),
     ] {
@@ -201,7 +217,8 @@ fn other_words_are_refused(rt: HostRuntime) -> Result<(), AllocError> {
         "--nodes|5|6",
         "--nodes|5|--nodes=5",
         "--workers|17|--loud",
-        "--fun",
+        "--Fun",
+        "--fun|--fun",
         "--verify|--resume|--loud",
     ] {
         let words = words_of(rt.alloc(), line)?;
@@ -216,7 +233,11 @@ fn other_words_are_refused(rt: HostRuntime) -> Result<(), AllocError> {
 
 #[test]
 fn only_one_of_verify_and_resume_stands(rt: HostRuntime) -> Result<(), AllocError> {
-    for line in ["--verify|--resume", "--resume|--check|--verify|--nodes|5"] {
+    for line in [
+        "--verify|--resume",
+        "--resume|--check|--verify|--nodes|5",
+        "--fun|--verify|--resume",
+    ] {
         let words = words_of(rt.alloc(), line)?;
         assert_eq!(rt;
             read_settings(rt.alloc(), words.as_slice()),

@@ -20,4 +20,5 @@ returns c =
     let six = c.in_ok-arg-6.ensures.shape c.flag-2.ensures.local ∙ ap₂ with_rule five c.flag-2.ensures.rule in
     let seven = c.in_ok-arg-7.ensures.shape c.flag-3.ensures.local ∙ ap₂ with_rule six c.flag-3.ensures.rule in
     let eight = c.in_ok-arg-8.ensures.shape c.flag-4.ensures.local ∙ ap₂ with_rule seven c.flag-4.ensures.rule in
-    IfOk-weaker c.arg-9.result _ _ (λ made adds. adds.shape c.flag-5.ensures.local ∙ ap₂ with_rule eight c.flag-5.ensures.rule) c.arg-9.ensures
+    let nine = c.in_ok-arg-9.ensures.shape c.flag-5.ensures.local ∙ ap₂ with_rule eight c.flag-5.ensures.rule in
+    IfOk-weaker c.arg-10.result _ _ (λ made adds. adds.shape c.flag-6.ensures.local ∙ ap₂ with_rule nine c.flag-6.ensures.rule) c.arg-10.ensures
