@@ -1,5 +1,5 @@
 -- The faults of a tree by phases: what the scope answers, and what the rules answer where the scope has no fault, is what the tree means.
-use Rattle.std.proofs.Common.{◌≡◌, ℕ, ◌<◌, ◌⊎◌, List, Result, Ok, Err, IfOk, refl, sym, ap, ◌∙◌, subst, inl, inr, arith}
+use Rattle.std.proofs.Common.{◌≡◌, ℕ, ◌<◌, ◌⊎◌, true, false, List, Result, Ok, Err, IfOk, refl, sym, ap, ◌∙◌, subst, inl, inr, arith}
 use Rattle.std.specs.declared.vec.Vec.{Vec}
 use Rattle.std.specs.declared.alloc.Global.{Global}
 use Rattle.dactl_base.specs.declared.refusal.Kind.{Kind}
@@ -19,8 +19,9 @@ use Rattle.dactl_tokens.specs.Lexes.{Lexes}
 use Rattle.dactl_tokens.specs.Answer as tokens
 use Rattle.dactl_tokens.specs.Answer.{OkOrMemory, RefusedOrMemory}
 use Rattle.dactl_syntax.specs.Answer as grammar
+use Rattle.fun_program.specs.Compiling as equations
 use Rattle.dactl_rules.proofs.Late.{rule_phase, cycle_phase}
-use Rattle.dactl_top.specs.Compiling.{IsGrammarFault, Compiles}
+use Rattle.dactl_top.specs.Compiling.{IsGrammarFault, Compiles, CompilesBy}
 use Rattle.dactl_top.proofs.Faults.{one_least}
 
 -- ---- each fault is of its phase
@@ -169,3 +170,15 @@ scope_fault bytes t f parse due = tree_fault bytes t f parse (scope_due t f due)
 pub rules_answer : (bytes : List ℕ) (t : Text) (result : Result Program TextFault) → Parsed bytes t → NoFault (ScopeFault t) → TellsFaults (λ r. CycleFault t r ⊎ RuleFault t r) result → IfOk result (λ p. p ≡ program_of t) → Compiles bytes result
 rules_answer bytes t (Ok p) parse none tells is = tree_program bytes t p parse (λ r has. elim has [ inl scope ↦ none r scope | inr late ↦ tells r late ]) is
 rules_answer bytes t (Err f) parse none tells is = tree_fault bytes t f parse (late_due t f none tells)
+
+-- ---- by the flag
+
+pub by_modules : (bytes : List ℕ) (result : Result Program TextFault) → Compiles bytes result → CompilesBy false bytes result
+by_modules bytes (Ok p) answer = answer
+by_modules bytes (Err (faults.Refused r)) answer = answer
+by_modules bytes (Err faults.Memory) answer = answer
+
+pub by_equations : (bytes : List ℕ) (result : Result Program TextFault) → equations.Compiles bytes result → CompilesBy true bytes result
+by_equations bytes (Ok p) answer = answer
+by_equations bytes (Err (faults.Refused r)) answer = answer
+by_equations bytes (Err faults.Memory) answer = answer

@@ -22,16 +22,16 @@ use Rattle.dactl_top.specs.declared.status.Status.TheVariants as status
 use Rattle.dactl_crew.specs.declared.ended.EndedRun.{EndedRun}
 use Rattle.dactl_top.specs.declared.outcome.Outcome.{Outcome}
 use Rattle.dactl_top.specs.declared.outcome.Outcome.TheVariants.{Usage, ReadFault, TooLong, Memory, NoPart, Refused, Checked, BadGraph, Small, Judged, Ran}
-use Rattle.dactl_top.specs.Compiling.{MeansProgram}
 use Rattle.dactl_top.specs.Devices.{SourceChange, SinkChange, Took, IsUnread}
 use Rattle.dactl_top.specs.Given.{Given, given, HasSettings, IsText, HasText, HasUsage, HasReadFault, HasLongText}
 use Rattle.dactl_top.specs.Input.{longest}
-use Rattle.dactl_top.specs.Parts.{marker_of, LacksPart, IsStarted, Runs}
+use Rattle.dactl_top.specs.Parts.{marker_of, LacksPart, IsStarted}
 use Rattle.dactl_top.specs.Running.{limits_of, IsTooSmall, IsRun}
 use Rattle.dactl_top.specs.Outcomes.{HasCause, HasVerdict, IsKept, IsTold, SameGiven, Gives, room_for, run_text, trace_if, status_of, status_of_end, status_of_verdict}
 use Rattle.dactl_top.specs.Calls.{Call, call_of, IsAnswered, given_of}
 use Rattle.dactl_top.specs.Headline.{IsOfRun, IsRunOfText}
 use Rattle.dactl_top.specs.Reasons.{IsUnlessWanting, IsCaused, HasFault, KeepsRefusal, KeepsMeant, KeepsBadGraph, IsKeptProgram, KeepsProgram, KeepsVerdict, KeepsWrong, KeepsOverfull, KeepsRun, KeepsNoRun, KeepsNothing, KeepsFaith}
+use Rattle.dactl_top.proofs.Shown.{text_short, shows_values}
 use Rattle.dactl_top.proofs.Taking.{one_settings, text_unread}
 
 -- ---- the whole of an answer
@@ -76,6 +76,7 @@ told_run call (Ran run trace numbering) cause kept told is = elim told.gives as 
         is_program = kept.program;
         unasked = cause.says.unasked;
         runs = cause.says.meant.runs;
+        values = shows_values s call.kept.text.items run.program run.journal.items run.store.graph (text_short (given_of call) s cause.has cause.text) cause.says.unasked cause.says.meant.runs cause.says.run.reduction;
         graph = run.store.graph;
         ended = run.ended;
         is_end = kept.ended;

@@ -1,5 +1,5 @@
 -- Each answer to an input that is there whole comes wherever its cause holds.
-use Rattle.std.proofs.Common.{◌≡◌, ◌<◌, ◌⊎◌, Bool, List, [], ℕ, length, true, false, Ok, refl, sym, ap, ◌∙◌, subst, inl, inr, arith}
+use Rattle.std.proofs.Common.{◌≡◌, ◌<◌, ◌⊎◌, Bool, List, [], ℕ, length, true, false, refl, sym, ap, ◌∙◌, subst, inl, inr, arith}
 use Rattle.std.proofs.lemmas.List.{length-map}
 use Rattle.dactl_base.specs.declared.refusal.Refusal.{Refusal}
 use Rattle.dactl_model.specs.declared.graph.Entry.{Entry}
@@ -15,7 +15,6 @@ use Rattle.dactl_resume.specs.Answers.{IsBadAt}
 use Rattle.dactl_resume.specs.Resumed.{IsResumed}
 use Rattle.dactl_resume.proofs.Exact.{has_one_graph, is_not_both}
 use Rattle.dactl_settings.specs.declared.settings.Settings.{Settings}
-use Rattle.dactl_settings.specs.Reading.{settings_of}
 use Rattle.dactl_verify.specs.declared.verdict.Verdict.{Verdict}
 use Rattle.dactl_verify.specs.declared.verdict.Verdict.TheVariants as verdicts
 use Rattle.dactl_verify.specs.Verdicts.{IsVerdict}
@@ -25,12 +24,12 @@ use Rattle.dactl_top.specs.declared.status.Status.{Status}
 use Rattle.dactl_top.specs.declared.status.Status.TheVariants as status
 use Rattle.dactl_top.specs.declared.outcome.Outcome.{Outcome}
 use Rattle.dactl_top.specs.declared.outcome.Outcome.TheVariants.{Usage, ReadFault, TooLong, Memory, NoPart, Refused, Checked, BadGraph, Small, Judged, Ran}
-use Rattle.dactl_top.specs.Compiling.{IsProgramOf, MeansProgram, MeansFault}
+use Rattle.dactl_top.specs.Compiling.{IsProgramBy, MeansBy}
 use Rattle.dactl_top.specs.Devices.{SinkChange}
 use Rattle.dactl_top.specs.Given.{HasSettings}
 use Rattle.dactl_top.specs.Parts.{marker_of, HasPart, IsStarted, Runs}
 use Rattle.dactl_top.specs.Running.{limits_of, start_room, IsFitting, IsTooSmall}
-use Rattle.dactl_top.specs.Outcomes.{HasCause, HasChecked, HasBadGraph, HasSmall, HasVerdict, HasRun, IsRefused, IsToRun, IsTold, Gives, room_for, status_of_end, status_of_verdict}
+use Rattle.dactl_top.specs.Outcomes.{HasCause, HasChecked, HasBadGraph, HasSmall, HasVerdict, IsRefused, IsToRun, IsTold, Gives, room_for, status_of_end, status_of_verdict}
 use Rattle.dactl_top.specs.Calls.{Call, IsAnswered, given_of}
 use Rattle.dactl_top.specs.Headline.{IsOfRun}
 use Rattle.dactl_top.specs.Exact.{IsOfText, IsExactUnder, IsExact}
@@ -72,9 +71,9 @@ room_by_graph p q same =
     let arcs : fresh_arcs p.start.fresh ≡ fresh_arcs q.start.fresh = sym (start_arcs p) ∙ ap arcs_of same ∙ start_arcs q in
     λ i. record { nodes = nodes i; arcs = arcs i }
 
-same_room : (s : Settings) (input : List ℕ) (p q : Program) (one : Runs MeansProgram s input p) → IsValid one.meant → Runs IsProgramOf s input q → start_room p ≡ start_room q
+same_room : (s : Settings) (input : List ℕ) (p q : Program) (one : Runs (MeansBy s.fun) s input p) → IsValid one.meant → Runs (IsProgramBy s.fun) s input q → start_room p ≡ start_room q
 same_room s input p q one valid two =
-    let same = same_part s input one.rest two.rest (λ text. MeansProgram text one.meant) (λ text. IsProgramOf text two.meant) one.part two.part in
+    let same = same_part s input one.rest two.rest (λ text. MeansBy s.fun text one.meant) (λ text. IsProgramBy s.fun text two.meant) one.part two.part in
     room_by_graph p q (started_same s.resume one.meant two.meant one.rest two.rest p q valid (same_program s input one.rest two.rest one.meant two.meant one.part two.part) same.1 one.started two.started)
 
 -- so they all fit, or none does
@@ -86,24 +85,24 @@ not_small : (s : Settings) (p q : Program) → start_room p ≡ start_room q →
 not_small s p q same above fits = not_fit s q p (sym same) fits above
 
 -- where no graph is asked for, the program that is run is the one that the text part means
-fresh_part : (s : Settings) (input : List ℕ) (q : Program) → s.resume ≡ false → (also : Runs IsProgramOf s input q) → HasPart s input also.rest (λ text. IsProgramOf text q)
+fresh_part : (s : Settings) (input : List ℕ) (q : Program) → s.resume ≡ false → (also : Runs (IsProgramBy s.fun) s input q) → HasPart s input also.rest (λ text. IsProgramBy s.fun text q)
 fresh_part s input q fresh also =
     let same : q ≡ also.meant = subst (λ b. IsStarted b also.meant also.rest q) fresh also.started in
-    subst (λ z. HasPart s input also.rest (λ text. IsProgramOf text z)) (sym same) also.part
+    subst (λ z. HasPart s input also.rest (λ text. IsProgramBy s.fun text z)) (sym same) also.part
 
 -- a graph that was read has no bad line
-read_not_bad : (s : Settings) (input more : List ℕ) (p q : Program) (line : ℕ) (own : Runs MeansProgram s input p) → IsValid own.meant → s.resume ≡ true → HasPart s input more (λ text. IsProgramOf text q) → IsBadAt q more line → ⊥
+read_not_bad : (s : Settings) (input more : List ℕ) (p q : Program) (line : ℕ) (own : Runs (MeansBy s.fun) s input p) → IsValid own.meant → s.resume ≡ true → HasPart s input more (λ text. IsProgramBy s.fun text q) → IsBadAt q more line → ⊥
 read_not_bad s input more p q line own valid asked also bad =
-    let same = same_part s input own.rest more (λ text. MeansProgram text own.meant) (λ text. IsProgramOf text q) own.part also in
+    let same = same_part s input own.rest more (λ text. MeansBy s.fun text own.meant) (λ text. IsProgramBy s.fun text q) own.part also in
     let program : own.meant ≡ q = same_program s input own.rest more own.meant q own.part also in
     let started : IsResumed own.meant own.rest p = subst (λ b. IsStarted b own.meant own.rest p) asked own.started in
     let own_bad : IsBadAt own.meant own.rest line = subst (λ (z : Program × List ℕ). IsBadAt z.0 z.1 line) (λ i. (sym program i, sym same.1 i)) bad in
     is_not_both own.meant own.rest started.graph line valid started.read own_bad
 
 -- and where a line is bad, no graph was read
-bad_not_read : (s : Settings) (input rest : List ℕ) (p q : Program) (line : ℕ) → HasPart s input rest (λ text. MeansProgram text p) → IsValid p → s.resume ≡ true → IsBadAt p rest line → Runs IsProgramOf s input q → ⊥
+bad_not_read : (s : Settings) (input rest : List ℕ) (p q : Program) (line : ℕ) → HasPart s input rest (λ text. MeansBy s.fun text p) → IsValid p → s.resume ≡ true → IsBadAt p rest line → Runs (IsProgramBy s.fun) s input q → ⊥
 bad_not_read s input rest p q line part valid asked bad also =
-    let same = same_part s input rest also.rest (λ text. MeansProgram text p) (λ text. IsProgramOf text also.meant) part also.part in
+    let same = same_part s input rest also.rest (λ text. MeansBy s.fun text p) (λ text. IsProgramBy s.fun text also.meant) part also.part in
     let program : p ≡ also.meant = same_program s input rest also.rest p also.meant part also.part in
     let started : IsResumed also.meant also.rest q = subst (λ b. IsStarted b also.meant also.rest q) asked also.started in
     let own : IsResumed p rest q = subst (λ (z : Program × List ℕ). IsResumed z.0 z.1 q) (λ i. (sym program i, sym same.1 i)) started in
@@ -115,11 +114,11 @@ bad_not_read s input rest p q line part valid asked bad also =
 small_verdict : (s : Settings) (p : Program) (rest : List ℕ) → IsTooSmall (limits_of s) p → IsVerdict p rest (room_for s) [] (verdicts.Small (start_room p) (room_for s))
 small_verdict s p rest above = record { needs = refl; has = refl; above = above; unread = refl }
 
-same_verdict : (s : Settings) (input more : List ℕ) (p q : Program) (verdict other : Verdict) (journal second : List Entry) → HasVerdict s input p verdict journal → HasPart s input more (λ text. IsProgramOf text q)
+same_verdict : (s : Settings) (input more : List ℕ) (p q : Program) (verdict other : Verdict) (journal second : List Entry) → HasVerdict s input p verdict journal → HasPart s input more (λ text. IsProgramBy s.fun text q)
     → IsVerdict q more (room_for s) second other → verdict ≡ other
 same_verdict s input more p q verdict other journal second is part found =
     let program : p ≡ q = same_program s input is.rest more p q is.meant.means part in
-    let same = same_part s input is.rest more (λ text. MeansProgram text p) (λ text. IsProgramOf text q) is.meant.means part in
+    let same = same_part s input is.rest more (λ text. MeansBy s.fun text p) (λ text. IsProgramBy s.fun text q) is.meant.means part in
     let also : IsVerdict p is.rest (room_for s) second other = subst (λ (z : Program × List ℕ). IsVerdict z.0 z.1 (room_for s) second other) (λ i. (sym program i, sym same.1 i)) found in
     (one_verdict p is.rest (room_for s) journal second verdict other is.meant.valid is.short is.few is.found also).1
 

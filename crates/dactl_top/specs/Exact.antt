@@ -10,7 +10,7 @@ use Rattle.dactl_verify.specs.declared.verdict.Verdict.{Verdict}
 use Rattle.dactl_verify.specs.Verdicts.{IsVerdict}
 use Rattle.dactl_top.specs.declared.status.Status.{Status}
 use Rattle.dactl_top.specs.declared.status.Status.TheVariants.{Usage, ReadFault, WriteFault, Memory, TooLong, NoPart, Checked, Refused, Small, BadGraph}
-use Rattle.dactl_top.specs.Compiling.{IsProgramOf, IsFaultOf}
+use Rattle.dactl_top.specs.Compiling.{IsProgramBy, IsFaultBy}
 use Rattle.dactl_top.specs.Parts.{marker_of, LacksPart, HasPart, Runs}
 use Rattle.dactl_top.specs.Running.{limits_of, IsTooSmall, IsFitting}
 use Rattle.dactl_top.specs.Outcomes.{room_for, status_of_verdict}
@@ -31,14 +31,14 @@ IsOfText _ = Unit {0}
 -- fit; or it runs.
 pub record IsExactUnder (s : Settings) (call : Call) : Type 0 where
   pub no_part : LacksPart (marker_of s) call.kept.text.items → call.answer ≡ NoPart
-  pub refused : (rest : List ℕ) (r : Refusal) → HasPart s call.kept.text.items rest (λ text. IsFaultOf text r) → call.answer ≡ Refused
-  pub checked : (rest : List ℕ) (p : Program) → s.check ≡ true → HasPart s call.kept.text.items rest (λ text. IsProgramOf text p) → call.answer ≡ Checked
+  pub refused : (rest : List ℕ) (r : Refusal) → HasPart s call.kept.text.items rest (λ text. IsFaultBy s.fun text r) → call.answer ≡ Refused
+  pub checked : (rest : List ℕ) (p : Program) → s.check ≡ true → HasPart s call.kept.text.items rest (λ text. IsProgramBy s.fun text p) → call.answer ≡ Checked
   pub judged : (rest : List ℕ) (p : Program) (verdict : Verdict) (journal : List Entry) → s.check ≡ false → s.verify ≡ true
-      → HasPart s call.kept.text.items rest (λ text. IsProgramOf text p) → IsVerdict p rest (room_for s) journal verdict → call.answer ≡ status_of_verdict verdict
-  pub bad_graph : (rest : List ℕ) (p : Program) (line : ℕ) → s.check ≡ false → s.resume ≡ true → HasPart s call.kept.text.items rest (λ text. IsProgramOf text p) → IsBadAt p rest line
+      → HasPart s call.kept.text.items rest (λ text. IsProgramBy s.fun text p) → IsVerdict p rest (room_for s) journal verdict → call.answer ≡ status_of_verdict verdict
+  pub bad_graph : (rest : List ℕ) (p : Program) (line : ℕ) → s.check ≡ false → s.resume ≡ true → HasPart s call.kept.text.items rest (λ text. IsProgramBy s.fun text p) → IsBadAt p rest line
       → call.answer ≡ BadGraph
-  pub small : (p : Program) → s.check ≡ false → Runs IsProgramOf s call.kept.text.items p → IsTooSmall (limits_of s) p → call.answer ≡ Small
-  pub runs : (p : Program) → s.check ≡ false → s.verify ≡ false → Runs IsProgramOf s call.kept.text.items p → IsFitting (limits_of s) p → IsOfRun call.answer
+  pub small : (p : Program) → s.check ≡ false → Runs (IsProgramBy s.fun) s call.kept.text.items p → IsTooSmall (limits_of s) p → call.answer ≡ Small
+  pub runs : (p : Program) → s.check ≡ false → s.verify ≡ false → Runs (IsProgramBy s.fun) s call.kept.text.items p → IsFitting (limits_of s) p → IsOfRun call.answer
 
 -- so it is under the settings of the words
 abbrev pub IsExact : Call → Type 0

@@ -1,14 +1,15 @@
 -- The headline: what stands whenever a call answers that a program ran.
-use Rattle.std.specs.Prelude.{◌≡◌, ℕ, ◌++◌, List, length, Some, false}
+use Rattle.std.specs.Prelude.{◌≡◌, ℕ, ◌++◌, List, length, Some, true, false}
 use Rattle.dactl_model.specs.declared.graph.Graph.{Graph}
 use Rattle.dactl_model.specs.declared.graph.End.{End}
 use Rattle.dactl_model.specs.declared.program.Program.{Program}
 use Rattle.dactl_print.specs.Texts.{end_line}
 use Rattle.dactl_print.specs.Lines.{IsGraphText}
 use Rattle.dactl_settings.specs.declared.settings.Settings.{Settings}
+use Rattle.fun_program.specs.Values.{ShowsValues}
 use Rattle.dactl_top.specs.declared.status.Status.{Status}
 use Rattle.dactl_top.specs.declared.status.Status.TheVariants.{Normal, Budget, Full}
-use Rattle.dactl_top.specs.Compiling.{MeansProgram}
+use Rattle.dactl_top.specs.Compiling.{MeansBy}
 use Rattle.dactl_top.specs.Devices.{Took}
 use Rattle.dactl_top.specs.Given.{HasSettings, IsText}
 use Rattle.dactl_top.specs.Calls.{Call, given_of}
@@ -36,12 +37,15 @@ pub record IsRunOfText (call : Call) : Type 0 where
   pub unasked : settings.verify ≡ false
   pub program : Program
   pub is_program : call.kept.program ≡ Some program
-  pub runs : Runs MeansProgram settings call.kept.text.items program
+  pub runs : Runs (MeansBy settings.fun) settings call.kept.text.items program
   -- the journal is that of a run of it, within the limits, and the reports are those of its workers
   pub graph : Graph
   pub ended : End
   pub is_end : call.kept.end ≡ Some ended
   pub run : IsRun (limits_of settings) settings.workers program call.kept.journal.items graph ended call.kept.reports.items call.kept.left
+  -- where the text is one of equations, and the run started from what they say, whatever the root of the last graph unfolds to is the value
+  -- that they give to the expression of `MAIN`, whichever way the workers interleaved; this holds for each of the three answers
+  pub values : settings.fun ≡ true → settings.resume ≡ false → ShowsValues call.kept.text.items program graph
   -- the answer is its end, and this was written
   pub is_answer : call.answer ≡ status_of_end ended
   pub text : List ℕ

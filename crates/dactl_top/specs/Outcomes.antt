@@ -22,7 +22,7 @@ use Rattle.dactl_top.specs.declared.status.Status.TheVariants as status
 use Rattle.dactl_crew.specs.declared.ended.EndedRun.{EndedRun}
 use Rattle.dactl_top.specs.declared.outcome.Outcome.{Outcome}
 use Rattle.dactl_top.specs.declared.outcome.Outcome.TheVariants.{Usage, ReadFault, TooLong, Memory, NoPart, Refused, Checked, BadGraph, Small, Judged, Ran}
-use Rattle.dactl_top.specs.Compiling.{MeansProgram, MeansFault}
+use Rattle.dactl_top.specs.Compiling.{MeansBy, MeansFaultBy}
 use Rattle.dactl_top.specs.Devices.{SinkChange, Took, IsCutShort}
 use Rattle.dactl_top.specs.Given.{Given, HasUsage, HasReadFault, HasLongText, HasMemory, HasText}
 use Rattle.dactl_top.specs.Input.{longest}
@@ -34,12 +34,12 @@ use Rattle.dactl_top.specs.Running.{limits_of, start_room, IsTooSmall, IsRun}
 
 -- the program is what the text part of the input means, and this is the rest
 pub record IsMeant (s : Settings) (input rest : List ℕ) (p : Program) : Type 0 where
-  pub means : HasPart s input rest (λ text. MeansProgram text p)
+  pub means : HasPart s input rest (λ text. MeansBy s.fun text p)
   pub valid : IsValid p
 
 -- the input is to run this program
 pub record IsToRun (s : Settings) (input : List ℕ) (p : Program) : Type 0 where
-  pub runs : Runs MeansProgram s input p
+  pub runs : Runs (MeansBy s.fun) s input p
   pub sound : IsValid runs.meant
   pub valid : IsValid p
 
@@ -68,7 +68,7 @@ pub record HasRun (s : Settings) (input : List ℕ) (r : EndedRun) (trace : Bool
 
 -- the text part of the input has this first fault
 abbrev pub IsRefused : Settings → List ℕ → Refusal → Type 0
-IsRefused s input refusal = (rest : List ℕ) × HasPart s input rest (λ text. MeansFault text refusal)
+IsRefused s input refusal = (rest : List ℕ) × HasPart s input rest (λ text. MeansFaultBy s.fun text refusal)
 
 -- the text part of the input is a program, and was only to be checked
 pub record HasChecked (s : Settings) (input : List ℕ) (p : Program) : Type 0 where

@@ -8,7 +8,7 @@ use Rattle.dactl_print.specs.Lines.{HasSymbolsOf}
 use Rattle.dactl_print.specs.Printing.{Gathering}
 use Rattle.dactl_settings.specs.declared.settings.Settings.{Settings}
 use Rattle.dactl_top.specs.declared.prepare.Prepared.{Prepared}
-use Rattle.dactl_top.specs.Running.{limits_of, start_room}
+use Rattle.dactl_top.specs.Running.{limits_of}
 
 -- all that a run of the program takes is there
 pub record IsPrepared (s : Settings) (p : Program) (prepared : Prepared) : Type 0 where

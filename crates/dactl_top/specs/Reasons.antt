@@ -15,7 +15,7 @@ use Rattle.dactl_verify.specs.Verdicts.{IsVerdict}
 use Rattle.dactl_top.specs.declared.kept.Kept.{Kept}
 use Rattle.dactl_top.specs.declared.status.Status.{Status}
 use Rattle.dactl_top.specs.declared.status.Status.TheVariants.{Usage, Refused, Checked, Small, ReadFault, WriteFault, Memory, TooLong, Verified, Invalid, NoPart, BadGraph, NoRoom}
-use Rattle.dactl_top.specs.Compiling.{MeansProgram, MeansFault}
+use Rattle.dactl_top.specs.Compiling.{MeansBy, MeansFaultBy}
 use Rattle.dactl_top.specs.Devices.{IsUnread}
 use Rattle.dactl_top.specs.Given.{HasText, HasUsage, HasReadFault, HasLongText}
 use Rattle.dactl_top.specs.Input.{longest}
@@ -30,7 +30,7 @@ IsUnlessWanting due answer = (answer ≡ due) ⊎ ((answer ≡ WriteFault) ⊎ (
 
 -- the refusal is the first fault of the text part
 abbrev pub HasFault : Settings → Kept → Refusal → Type 0
-HasFault s kept r = (rest : List ℕ) × HasPart s kept.text.items rest (λ text. MeansFault text r)
+HasFault s kept r = (rest : List ℕ) × HasPart s kept.text.items rest (λ text. MeansFaultBy s.fun text r)
 
 -- it is kept
 abbrev pub KeepsRefusal : Settings → Kept → Type 0
@@ -38,7 +38,7 @@ KeepsRefusal s kept = (r : Refusal) × (kept.refusal ≡ Some r) × HasFault s k
 
 -- the kept program is what the text part means, and it is so beside the rest
 abbrev pub KeepsMeant : Settings → Kept → (Program → List ℕ → Type 0) → Type 0
-KeepsMeant s kept Is = (p : Program) × (rest : List ℕ) × (kept.program ≡ Some p) × HasPart s kept.text.items rest (λ text. MeansProgram text p) × Is p rest
+KeepsMeant s kept Is = (p : Program) × (rest : List ℕ) × (kept.program ≡ Some p) × HasPart s kept.text.items rest (λ text. MeansBy s.fun text p) × Is p rest
 
 -- the kept program is what the text part means, and this line of the rest is bad as one of a printed graph of it
 abbrev pub KeepsBadGraph : Settings → Kept → Type 0
@@ -46,11 +46,11 @@ KeepsBadGraph s kept = (s.check ≡ false) × (s.resume ≡ true) × (line : ℕ
 
 -- the kept program is what the text part means, or the one that the input is to run
 abbrev pub IsKeptProgram : Settings → List ℕ → Program → Type 0
-IsKeptProgram s input p = ((rest : List ℕ) × HasPart s input rest (λ text. MeansProgram text p)) ⊎ Runs MeansProgram s input p
+IsKeptProgram s input p = ((rest : List ℕ) × HasPart s input rest (λ text. MeansBy s.fun text p)) ⊎ Runs (MeansBy s.fun) s input p
 
 -- the kept program is the one that the input is to run, and it is so
 abbrev pub KeepsProgram : Settings → Kept → (Program → Type 0) → Type 0
-KeepsProgram s kept Is = (p : Program) × (kept.program ≡ Some p) × Runs MeansProgram s kept.text.items p × Is p
+KeepsProgram s kept Is = (p : Program) × (kept.program ≡ Some p) × Runs (MeansBy s.fun) s kept.text.items p × Is p
 
 -- the rest was checked as a trace of the kept program. This was found, and the kept journal is that of the lines before
 pub record KeepsVerdict (s : Settings) (kept : Kept) (verdict : Verdict) : Type 0 where

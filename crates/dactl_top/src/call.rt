@@ -21,9 +21,10 @@ use std::thread::Threads;
 
 /// Reads a text, compiles it, runs the program that it means by as many workers as the words ask
 /// for, and writes the answer to the sink. `words` are those of the command line, the program's
-/// name among them: they say how the text is run, and may ask for the sample text in place of the
-/// source, or for the check of a trace that stands behind the text, in place of a run. Each worker
-/// runs in a thread of its own and passes the gate, which may hold it up.
+/// name among them: they say how the text is run and whether it is one of modules or of equations,
+/// and may ask for the sample text in place of the source, or for the check of a trace that stands
+/// behind the text, in place of a run. Each worker runs in a thread of its own and passes the gate,
+/// which may hold it up.
 ///
 /// Memory is taken before the workers start: from then on, all that can keep the answer from being
 /// written is the sink. Waits for the workers, and is not promised to return: a thread that is not

@@ -22,6 +22,8 @@ mod compile_tests;
 #[cfg(test)]
 mod device_tests;
 #[cfg(test)]
+mod fun_tests;
+#[cfg(test)]
 mod limit_tests;
 #[cfg(test)]
 mod parts_tests;

@@ -16,7 +16,7 @@ ghost use Rattle.dactl_top.specs.Parts.{IsParted, marker_of};
 ghost use Rattle.dactl_top.specs.Telling.{IsTellable};
 ghost use Rattle.dactl_top.specs.Running.{limits_of, start_room, IsTooSmall};
 
-use crate::compile::compile;
+use crate::compile::compile_input;
 use crate::input::{Input, take_text};
 use crate::kept::Kept;
 use crate::lines::{bad_graph_line, refused_line, small_line, verdict_line};
@@ -190,7 +190,7 @@ fn answer_parts<R: Threads + Wait + Sync, G: Gate + Sync>(
         → ComesOf settings input result }
     ensures tellable { IsTellable result }
 {
-    match compile(alloc, text) {
+    match compile_input(alloc, settings.fun, text) {
         Ok(program) if settings.check => Outcome::Checked(program),
         Ok(program) if settings.verify => judge(alloc, settings, program, rest),
         Ok(program) if settings.resume => go_on(rt, alloc, settings, program, rest, gate),

@@ -1,6 +1,6 @@
-use Rattle.std.proofs.Common.{List, ℕ, refl, sym, subst}
-use Rattle.dactl_top.specs.Compiling.{MeansFault, MeansProgram}
-use Rattle.dactl_top.specs.Parts.{HasPart, IsStarted}
+use Rattle.std.proofs.Common.{refl, sym, subst}
+use Rattle.dactl_top.specs.Compiling.{MeansFaultBy}
+use Rattle.dactl_top.specs.Parts.{IsStarted}
 use Rattle.dactl_top.proofs.steps.answer_parts.Goals as goal
 
 pub returns-in-Ok-clause-comes : goal.returns-in-Ok-clause-comes
@@ -36,4 +36,4 @@ returns-in-Ok-4-clause-comes g c = λ input parted.
 pub returns-in-Err-Refused-clause-comes : goal.returns-in-Err-Refused-clause-comes
 returns-in-Err-Refused-clause-comes g c = λ input parted.
     let means = (rw c.in-Err-Refused.field-0-is at c.in-Err-Refused.ensures.answer) in
-    c.refused.ensures.comes c.args.settings input (c.args.rest.now, record { text = c.args.text.now; parted = parted; says = subst (MeansFault c.args.text.now) (sym c.in-Err-Refused.refusal-is) means })
+    c.refused.ensures.comes c.args.settings input (c.args.rest.now, record { text = c.args.text.now; parted = parted; says = subst (MeansFaultBy c.args.settings.fun c.args.text.now) (sym c.in-Err-Refused.refusal-is) means })
