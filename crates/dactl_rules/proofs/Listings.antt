@@ -1,7 +1,7 @@
 -- The items of a text, one after another.
-use Rattle.std.proofs.Common.{◌≡◌, ℕ, ◌+◌, ◌<◌, List, [], ◌∷◌, ◌++◌, map, length, take, drop, get_or, slice_get, Some, sym, ap, ◌∙◌, append_assoc}
+use Rattle.std.proofs.Common.{◌≡◌, ℕ, ◌+◌, ◌<◌, List, [], ◌∷◌, ◌++◌, map, length, take, get_or, sym, ap, ◌∙◌, append_assoc}
 use Rattle.std.specs.List.{enumerate_from, flat_map}
-use Rattle.std.proofs.lemmas.List.{append-nil, take_more, map-append, take-append-drop}
+use Rattle.std.proofs.lemmas.List.{append-nil, take_more, map-append}
 use Rattle.std.proofs.lemmas.Grind.{flat_map-append}
 use Rattle.dactl_symbols.proofs.Walks.{numbered-at, numbered-within}
 
@@ -31,14 +31,3 @@ pub items_more : {P I X : Type 0} (f : P → List X) (placed : I → P) (items :
     → flat_map f (map placed (take (i + 1) items)) ≡ flat_map f (map placed (take i items)) ++ f (placed item)
 items_more f placed items i item lt at =
     ap (λ (l : List _). flat_map f (map placed l)) (one_more items i item lt at) ∙ ap (flat_map f) (map-append placed (take i items) (item ∷ [])) ∙ flat_one f (map placed (take i items)) (placed item)
-
--- the first item that gives something, where those before it give nothing
-pub first_found : {P I X : Type 0} (f : P → List X) (placed : I → P) (items : List I) (i : ℕ) (item : I) (x : X) → i < length items → item ≡ get_or items i item
-    → flat_map f (map placed (take i items)) ≡ [] → f (placed item) ≡ x ∷ [] → Some x ≡ slice_get (flat_map f (map placed items)) 0
-first_found f placed items i item x lt at none is =
-    let front : flat_map f (map placed (take (i + 1) items)) ≡ x ∷ [] = items_more f placed items i item lt at ∙ (λ j. none j ++ is j) in
-    let rest = flat_map f (map placed (drop (i + 1) items)) in
-    let all : flat_map f (map placed items) ≡ (x ∷ []) ++ rest =
-    ap (λ (l : List _). flat_map f (map placed l)) (sym (take-append-drop (i + 1) items)) ∙ ap (flat_map f) (map-append placed (take (i + 1) items) (drop (i + 1) items))
-    ∙ flat_map-append f (map placed (take (i + 1) items)) (map placed (drop (i + 1) items)) ∙ ap (λ (l : List _). l ++ rest) front in
-    sym (ap (λ (l : List _). slice_get l 0) all)

@@ -1,6 +1,7 @@
 -- What the code finds of a whole text is what the definitions say.
 use Rattle.std.proofs.Common.{◌≡◌, ℕ, ◌+◌, ◌<◌, ◌⊎◌, inl, inr, Bool, List, [], ◌∷◌, ◌++◌, map, length, take, get_or, All, Contains, Option, None, refl, sym, ap, ◌∙◌, subst, arith}
 use Rattle.std.specs.List.{flat_map}
+use Rattle.std.specs.Option.{option_or}
 use Rattle.std.proofs.lemmas.List.{append-nil, map-append}
 use Rattle.std.proofs.lemmas.List.Elements.{All-append, All-from_recursion}
 use Rattle.std.proofs.lemmas.Grind.{flat_map-append}
@@ -8,6 +9,7 @@ use Rattle.dactl_base.specs.declared.refusal.Refusal.{Refusal}
 use Rattle.dactl_base.specs.declared.refusal.TextFault.{TextFault}
 use Rattle.dactl_base.specs.declared.refusal.TextFault.TheVariants as faults
 use Rattle.dactl_model.specs.declared.program.Rule.{Rule}
+use Rattle.dactl_model.specs.declared.program.Start.{Start}
 use Rattle.dactl_model.specs.Programs.{IsValid}
 use Rattle.dactl_base.specs.declared.refusal.Place.{Place}
 use Rattle.dactl_meaning.specs.declared.tree.Group.{Group}
@@ -29,7 +31,8 @@ use Rattle.dactl_symbols.specs.Sights.{Sights}
 use Rattle.dactl_rules.specs.declared.compiled.CompiledRules.{CompiledRules}
 use Rattle.dactl_rules.specs.Counting.{AreCountable, IsCountable}
 use Rattle.dactl_rules.specs.Drafts.{IsDraft}
-use Rattle.dactl_rules.specs.Initials.{initial_faults, initials_in, root_in, start_in, AreRead}
+use Rattle.dactl_rules.specs.declared.initials.ReadInitials.{ReadInitials}
+use Rattle.dactl_rules.specs.Initials.{first_start, initial_faults, initials_in, root_in, start_from, AreMeant, AreRead}
 use Rattle.dactl_rules.specs.RuleLists.{HasRules, terms_of, faults_in, contracta_in}
 use Rattle.dactl_meaning.specs.Spelling.{IsSpelled}
 use Rattle.dactl_rules.proofs.Late.{rule_phase, cycle_phase}
@@ -40,8 +43,11 @@ use Rattle.dactl_rules.proofs.ValidPrograms.{valid_without_faults}
 
 -- ---- first graphs
 
-pub read_none : (look : ℕ → List ℕ → Option Seen) → AreRead look [] None
-read_none look = record { tells = none_told; counted = All-from_recursion AreCountable [] tt }
+pub meant_none : (look : ℕ → List ℕ → Option Seen) → AreMeant look [] (record { fault = None; start = None })
+meant_none look = record {
+  read = record { tells = none_told; counted = All-from_recursion AreCountable [] tt };
+  start = λ e. refl;
+}
 
 pub read_one : (look : ℕ → List ℕ → Option Seen) (i : PlacedInitial) (o : Option Refusal) → TellsLeast (Contains (contractum_faults (look i.owner) [] [] i.terms)) o → AreCountable i.terms → AreRead look (i ∷ []) o
 read_one look i o tells counts = record {
@@ -55,11 +61,23 @@ read_then look xs ys a b p q = record {
   counted = subst (All AreCountable) (sym (map-append (λ (i : PlacedInitial). i.terms) xs ys)) (All-append AreCountable (map (λ (i : PlacedInitial). i.terms) xs) (map (λ (i : PlacedInitial). i.terms) ys) p.counted q.counted);
 }
 
-pub read_more : {I : Type 0} (look : ℕ → List ℕ → Option Seen) (placed : I → Placed) (items : List I) (i : ℕ) (item : I) (a b : Option Refusal) → i < length items → item ≡ get_or items i item
-    → AreRead look (flat_map initials_in (map placed (take i items))) a → AreRead look (initials_in (placed item)) b → AreRead look (flat_map initials_in (map placed (take (i + 1) items))) (sooner a b)
-read_more look placed items i item a b lt at before here =
-    subst (λ (l : List PlacedInitial). AreRead look l (sooner a b)) (sym (items_more initials_in placed items i item lt at))
-    (read_then look (flat_map initials_in (map placed (take i items))) (initials_in (placed item)) a b before here)
+first_of_two : (look : ℕ → List ℕ → Option Seen) (xs ys : List PlacedInitial) → option_or (first_start look xs) (first_start look ys) ≡ first_start look (xs ++ ys)
+first_of_two look [] ys = refl
+first_of_two look (x ∷ xs) ys = refl
+
+meant_then : (look : ℕ → List ℕ → Option Seen) (xs ys : List PlacedInitial) (a b : ReadInitials) → AreMeant look xs a → AreMeant look ys b
+    → AreMeant look (xs ++ ys) (record { fault = sooner a.fault b.fault; start = option_or a.start b.start })
+meant_then look xs ys a b p q = record {
+  read = read_then look xs ys a.fault b.fault p.read q.read;
+  start = λ e. let none = both_none a.fault b.fault e in (λ j. option_or (p.start none.0 j) (q.start none.1 j)) ∙ first_of_two look xs ys;
+}
+
+pub meant_more : {I : Type 0} (look : ℕ → List ℕ → Option Seen) (placed : I → Placed) (items : List I) (i : ℕ) (item : I) (a b : ReadInitials) → i < length items → item ≡ get_or items i item
+    → AreMeant look (flat_map initials_in (map placed (take i items))) a → AreMeant look (initials_in (placed item)) b
+    → AreMeant look (flat_map initials_in (map placed (take (i + 1) items))) (record { fault = sooner a.fault b.fault; start = option_or a.start b.start })
+meant_more look placed items i item a b lt at before here =
+    subst (λ (l : List PlacedInitial). AreMeant look l (record { fault = sooner a.fault b.fault; start = option_or a.start b.start })) (sym (items_more initials_in placed items i item lt at))
+    (meant_then look (flat_map initials_in (map placed (take i items))) (initials_in (placed item)) a b before here)
 
 pub no_initial : (m : ℕ) (i : Item) → ((place : Place) (terms : List TermTree) → i ≡ item.Initial place terms → ⊥) → item_initial m i ≡ []
 no_initial m (item.Imports names) other = refl
@@ -155,15 +173,16 @@ draft_is text s scopes named initial old new named_told rules_told initial_told 
       };
     }
 
-start_is : (text : Text) (s : Sights) → IsScopesOf text s → (is : List PlacedInitial) → start_in (seen_in s) is ≡ start_by text is
+start_is : (text : Text) (s : Sights) → IsScopesOf text s → (is : List PlacedInitial) → start_from (first_start (seen_in s) is) ≡ start_by text is
 start_is text s scopes [] = refl
-start_is text s scopes (i ∷ more) = ap (λ (look : ℕ → List ℕ → Option Seen). start_in look (i ∷ more)) (look_is text s scopes)
+start_is text s scopes (i ∷ more) = ap (λ (look : ℕ → List ℕ → Option Seen). start_from (first_start look (i ∷ more))) (look_is text s scopes)
 
 -- what is assembled is what the text means
-pub program_is : (text : Text) (s : Sights) → IsScopesOf text s → (wide : Bool) (written : List Rule) (listed : List Placed) → wide ≡ is_wide text → written ≡ rules_from text 5 (groups text) → listed ≡ items text
-    → record { symbols = symbols_in s; rules = arithmetic_rules ++ written; start = start_in (seen_in s) (flat_map initials_in listed); wide = wide } ≡ program_of text
-program_is text s scopes wide written listed wide_is rules_are items_are =
-    λ j. record { symbols = scopes.symbols j; rules = arithmetic_rules ++ rules_are j; start = (ap (λ (l : List Placed). start_in (seen_in s) (flat_map initials_in l)) items_are ∙ start_is text s scopes (all_initials text)) j; wide = wide_is j }
+pub program_is : (text : Text) (s : Sights) → IsScopesOf text s → (wide : Bool) (written : List Rule) (start : Option Start) (listed : List Placed) → wide ≡ is_wide text → written ≡ rules_from text 5 (groups text)
+    → start ≡ first_start (seen_in s) (flat_map initials_in listed) → listed ≡ items text
+    → record { symbols = symbols_in s; rules = arithmetic_rules ++ written; start = start_from start; wide = wide } ≡ program_of text
+program_is text s scopes wide written start listed wide_is rules_are start_first items_are =
+    λ j. record { symbols = scopes.symbols j; rules = arithmetic_rules ++ rules_are j; start = (ap start_from start_first ∙ ap (λ (l : List Placed). start_from (first_start (seen_in s) (flat_map initials_in l))) items_are ∙ start_is text s scopes (all_initials text)) j; wide = wide_is j }
 
 pub valid : (text : Text) → IsCountable text → NoFault (CycleFault text) → NoFault (RuleFault text) → IsSpelled text → NoFault (ScopeFault text) → IsValid (program_of text)
 valid text counted cycles sound spelled scope = valid_without_faults text spelled counted (λ r h. elim h [ inl names ↦ scope r names | inr late ↦ elim late [ inl cycle ↦ cycles r cycle | inr rule ↦ sound r rule ] ])

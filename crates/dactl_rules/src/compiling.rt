@@ -1,5 +1,5 @@
 //! From a text to its program.
-ghost use Rattle.std.specs.Prelude.{◌≡◌, ◌⊎◌, ◌++◌, true, Contains, IfOk, map};
+ghost use Rattle.std.specs.Prelude.{◌≡◌, ◌⊎◌, ◌++◌, true, Contains, IfOk, None, map};
 ghost use Rattle.std.specs.List.{flat_map};
 ghost use Rattle.dactl_model.specs.Programs.{IsValid};
 ghost use Rattle.dactl_meaning.specs.Declarations.{items as items_in};
@@ -9,19 +9,19 @@ ghost use Rattle.dactl_meaning.specs.RuleFaults.{pattern_faults};
 ghost use Rattle.dactl_meaning.specs.ScopeFaults.{ScopeFault};
 ghost use Rattle.dactl_symbols.specs.Least.{TellsLeast};
 ghost use Rattle.dactl_symbols.specs.Scoping.{IsScopesOf, seen_in, symbols_in};
-ghost use Rattle.dactl_rules.specs.Initials.{initials_in, start_in};
+ghost use Rattle.dactl_rules.specs.Initials.{first_start, initials_in, start_from};
 ghost use Rattle.dactl_rules.specs.Drafts.{IsDraft};
 ghost use Rattle.dactl_patterns.specs.Table.{AreNamed};
 ghost use Rattle.dactl_rules.specs.Listing.{placed};
 ghost use Rattle.dactl_meaning.specs.Spelling.{IsSpelled};
 
 use crate::compiled::{CompiledRules, rules};
-use crate::initials::{initial_fault, start};
+use crate::initials::{ReadInitials, read_initials, start_or_none};
 use crate::listing::{Placed, items};
 use dactl_base::refusal::{Memory, Place, Refusal, TextFault};
 use dactl_meaning::tree::{Item, PatternTree, Text};
 use dactl_model::arithmetic::arithmetic_rule;
-use dactl_model::program::{Op, Program, Rule};
+use dactl_model::program::{Op, Program, Rule, Start};
 use dactl_patterns::{NamedPatterns, examine, named_patterns};
 use dactl_symbols::least::lesser;
 use dactl_symbols::sight::Scopes;
@@ -96,17 +96,23 @@ fn built_in(alloc: Global) -> Result<Items<Rule>, Memory>
     Ok(rules)
 }
 
-/// The rules of a text, and the first fault of its named patterns, rules and first graphs.
-fn draft(alloc: Global, patterns: &NamedPatterns, items: &[Placed]) -> Result<CompiledRules, Memory>
+/// The rules of a text, and the first fault of its named patterns, rules and first graphs; and its
+/// first graph, where there is no fault.
+fn draft(
+    alloc: Global,
+    patterns: &NamedPatterns,
+    items: &[Placed],
+) -> Result<(CompiledRules, Option<Start>), Memory>
     requires patterns { AreNamed patterns.now }
     requires items { map placed items.now ≡ items_in patterns.now.text.now }
-    ensures { IfOk result (IsDraft patterns.now.text.now) }
+    ensures rules { IfOk result (λ d. IsDraft patterns.now.text.now d.0) }
+    ensures start { IfOk result (λ d. d.0.fault ≡ None → d.1 ≡ first_start (seen_in patterns.now.scopes.now) (flat_map initials_in (map placed items.now))) }
 {
     let named = first_named_fault(alloc, patterns, items)?;
-    let initial = initial_fault(alloc, patterns.scopes, items)?;
+    let ReadInitials { fault, start } = read_initials(alloc, patterns.scopes, items)?;
     let mut compiled = rules(alloc, patterns, items)?;
-    compiled.fault = lesser(lesser(named, compiled.fault), initial);
-    Ok(compiled)
+    compiled.fault = lesser(lesser(named, compiled.fault), fault);
+    Ok((compiled, start))
 }
 
 /// The program of these rules, behind those of the arithmetic; `wide` says that it has integers of
@@ -115,19 +121,18 @@ fn assemble(
     alloc: Global,
     wide: bool,
     scopes: &Scopes,
-    items: &[Placed],
+    start: Option<Start>,
     written: Vec<Rule>,
 ) -> Result<Program, Memory>
-    ensures { IfOk result (λ p. p ≡ record { symbols = symbols_in scopes.now; rules = arithmetic_rules ++ written.items; start = start_in (seen_in scopes.now) (flat_map initials_in (map placed items.now)); wide = wide }) }
+    ensures { IfOk result (λ p. p ≡ record { symbols = symbols_in scopes.now; rules = arithmetic_rules ++ written.items; start = start_from start; wide = wide }) }
 {
     let symbols = scopes.symbols(alloc)?;
     let mut rules = built_in(alloc)?;
     rules.append(Items::from_vec(written))?;
-    let start = start(alloc, scopes, items)?;
     Ok(Program {
         symbols,
         rules,
-        start,
+        start: start_or_none(alloc, start),
         wide,
     })
 }
@@ -144,11 +149,12 @@ pub fn program(alloc: Global, text: &Text, scopes: &Scopes) -> Result<Program, T
 {
     let patterns = named_patterns(alloc, text, scopes)?;
     let items = items(alloc, text)?;
+    let (compiled, start) = draft(alloc, &patterns, items.as_slice())?;
     let CompiledRules {
         rules: written,
         group,
         fault,
-    } = draft(alloc, &patterns, items.as_slice())?;
+    } = compiled;
     if let Some(refusal) = fault {
         return Err(TextFault::Refused(refusal));
     }
@@ -156,5 +162,5 @@ pub fn program(alloc: Global, text: &Text, scopes: &Scopes) -> Result<Program, T
         return Err(TextFault::Memory);
     }
     let wide = text.language == WIDE_LANGUAGE;
-    Ok(assemble(alloc, wide, scopes, items.as_slice(), written)?)
+    Ok(assemble(alloc, wide, scopes, start, written)?)
 }

@@ -64,10 +64,10 @@ pub fn draw<'a>(alloc: Global, terms: &[&'a TermTree]) -> Result<Contractum<'a>,
     ensures given { IfOk result (λ c. (w : List ℕ) → found c.given w ≡ node_number (made_in c.drawing) w) }
 {
     let mut drawing = Drawing {
-        made: Vec::new(alloc),
+        made: Vec::with_capacity(alloc, terms.len())?,
         mentions: Vec::new(alloc),
     };
-    let mut targets = Vec::new(alloc);
+    let mut targets = Vec::with_capacity(alloc, terms.len())?;
     for tree in terms {
         targets.push(term(alloc, &mut drawing, tree)?)?;
     }

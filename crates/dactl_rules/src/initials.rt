@@ -1,11 +1,11 @@
 //! The first graph of a text, and the faults of what the text says of it.
-ghost use Rattle.std.specs.Prelude.{◌≡◌, [], ◌∷◌, ◌<◌, ◌^◌, IfOk, List, ℕ, length, map, option_map, slice_get};
+ghost use Rattle.std.specs.Prelude.{◌≡◌, [], ◌∷◌, ◌<◌, ◌^◌, IfOk, List, ℕ, length, map};
 ghost use Rattle.std.specs.List.{flat_map};
 ghost use Rattle.dactl_meaning.specs.Meaning.{node_number as node_number_of};
 ghost use Rattle.dactl_symbols.specs.Scoping.{seen_in};
 ghost use Rattle.dactl_rules.specs.Counting.{AreCountable};
 ghost use Rattle.dactl_rules.specs.Drawing.{made_in, target_of};
-ghost use Rattle.dactl_rules.specs.Initials.{initials_in, initial_of, root_in, start_at, start_in, AreRead};
+ghost use Rattle.dactl_rules.specs.Initials.{initials_in, root_in, start_from, AreMeant};
 ghost use Rattle.dactl_rules.specs.Listing.{placed};
 ghost use Rattle.dactl_names.specs.Found.{found};
 ghost use Rattle.dactl_rules.specs.Numbers.{node_number};
@@ -26,7 +26,7 @@ use std::alloc::Global;
 fn references<'a>(alloc: Global, terms: &'a [TermTree]) -> Result<Vec<&'a TermTree>, Memory>
     ensures { IfOk result (λ references. seen references.items ≡ terms.now) }
 {
-    let mut references = Vec::new(alloc);
+    let mut references = Vec::with_capacity(alloc, terms.len())?;
     for term in terms {
         references.push(term)?;
     }
@@ -49,66 +49,12 @@ fn no_variables(alloc: Global) -> Result<Variables, Memory>
     Variables::new(alloc, Items::new(alloc))
 }
 
-/// The first fault of the terms, in which no name is a variable.
-fn terms_fault(
-    alloc: Global,
-    scopes: &Scopes,
-    owner: usize,
-    terms: &[TermTree],
-) -> Result<Option<Refusal>, Memory>
-    ensures { IfOk result (AreRead (seen_in scopes.now) (record { owner = owner; terms = terms.now } ∷ [])) }
-{
-    let contractum = drawn(alloc, terms)?;
-    let none = no_variables(alloc)?;
-    let mut faults = Vec::new(alloc);
-    contractum_faults(alloc, &mut faults, scopes, owner, &none, &none, &contractum)?;
-    Ok(first(faults.as_slice()))
-}
-
-fn item_fault(alloc: Global, scopes: &Scopes, item: Placed) -> Result<Option<Refusal>, Memory>
-    ensures { IfOk result (AreRead (seen_in scopes.now) (initials_in (placed item.entry))) }
-{
-    match item.item {
-        Item::Initial { terms, .. } => terms_fault(alloc, scopes, item.owner, terms.as_slice()),
-        _ => Ok(None),
-    }
-}
-
-/// The first fault of what the items say of first graphs.
-pub fn initial_fault(
-    alloc: Global,
-    scopes: &Scopes,
-    items: &[Placed],
-) -> Result<Option<Refusal>, Memory>
-    ensures { IfOk result (AreRead (seen_in scopes.now) (flat_map initials_in (map placed items.now))) }
-{
-    let mut least = None;
-    for item in items {
-        let here = item_fault(alloc, scopes, *item)?;
-        least = lesser(least, here);
-    }
-    Ok(least)
-}
-
-/// The terms of a first graph, and the number of their module.
-#[derive(Clone, Copy)]
-struct Initial<'a> {
-    owner: usize,
-    terms: &'a [TermTree],
-}
-
-fn first_initial<'a>(items: &[Placed<'a>]) -> Option<Initial<'a>>
-    ensures { option_map initial_of result ≡ slice_get (flat_map initials_in (map placed items.now)) 0 }
-{
-    for item in items {
-        if let Item::Initial { terms, .. } = item.item {
-            return Some(Initial {
-                owner: item.owner,
-                terms: terms.as_slice(),
-            });
-        }
-    }
-    None
+/// The first fault of what a text says of first graphs; and where there is none, what the first that
+/// it says means.
+#[derive(Drop)]
+pub struct ReadInitials {
+    pub fault: Option<Refusal>,
+    pub start: Option<Start>,
 }
 
 fn number_of(mention: Mention) -> u32
@@ -131,25 +77,77 @@ fn root(contractum: &Contractum, variables: &Variables) -> u32
     }
 }
 
-fn start_of(alloc: Global, scopes: &Scopes, initial: Initial) -> Result<Start, Memory>
-    ensures { IfOk result (λ start. start ≡ start_at (seen_in scopes.now) (initial_of initial.entry)) }
+/// Reads the terms, in which no name is a variable.
+fn read_terms(
+    alloc: Global,
+    scopes: &Scopes,
+    owner: usize,
+    terms: &[TermTree],
+) -> Result<ReadInitials, Memory>
+    ensures { IfOk result (AreMeant (seen_in scopes.now) (record { owner = owner; terms = terms.now } ∷ [])) }
 {
-    let contractum = drawn(alloc, initial.terms)?;
+    let contractum = drawn(alloc, terms)?;
     let none = no_variables(alloc)?;
-    let fresh = contractum.fresh(alloc, scopes, initial.owner, &none)?;
-    let root = root(&contractum, &none);
-    Ok(Start { fresh, root })
+    let mut faults = Vec::new(alloc);
+    contractum_faults(alloc, &mut faults, scopes, owner, &none, &none, &contractum)?;
+    match first(faults.as_slice()) {
+        Some(refusal) => Ok(ReadInitials {
+            fault: Some(refusal),
+            start: None,
+        }),
+        None => {
+            let fresh = contractum.fresh(alloc, scopes, owner, &none)?;
+            let root = root(&contractum, &none);
+            Ok(ReadInitials {
+                fault: None,
+                start: Some(Start { fresh, root }),
+            })
+        }
+    }
 }
 
-/// What the first of the items says that says something of the first graph.
-pub fn start(alloc: Global, scopes: &Scopes, items: &[Placed]) -> Result<Start, Memory>
-    ensures { IfOk result (λ start. start ≡ start_in (seen_in scopes.now) (flat_map initials_in (map placed items.now))) }
+fn read_item(alloc: Global, scopes: &Scopes, item: Placed) -> Result<ReadInitials, Memory>
+    ensures { IfOk result (AreMeant (seen_in scopes.now) (initials_in (placed item.entry))) }
 {
-    match first_initial(items) {
-        Some(initial) => start_of(alloc, scopes, initial),
-        None => Ok(Start {
+    match item.item {
+        Item::Initial { terms, .. } => read_terms(alloc, scopes, item.owner, terms.as_slice()),
+        _ => Ok(ReadInitials {
+            fault: None,
+            start: None,
+        }),
+    }
+}
+
+/// Reads what the items say of first graphs. The terms of each are drawn once.
+pub fn read_initials(
+    alloc: Global,
+    scopes: &Scopes,
+    items: &[Placed],
+) -> Result<ReadInitials, Memory>
+    ensures { IfOk result (AreMeant (seen_in scopes.now) (flat_map initials_in (map placed items.now))) }
+{
+    let mut least = None;
+    let mut kept = None;
+    for item in items {
+        let ReadInitials { fault, start } = read_item(alloc, scopes, *item)?;
+        least = lesser(least, fault);
+        kept = kept.or(start);
+    }
+    Ok(ReadInitials {
+        fault: least,
+        start: kept,
+    })
+}
+
+/// The start; one without nodes where there is none.
+pub fn start_or_none(alloc: Global, start: Option<Start>) -> Start
+    ensures { result ≡ start_from start }
+{
+    match start {
+        Some(start) => start,
+        None => Start {
             fresh: Items::new(alloc),
             root: 0,
-        }),
+        },
     }
 }

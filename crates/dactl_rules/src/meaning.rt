@@ -84,7 +84,7 @@ impl Contractum<'_> {
         requires { IsReady variables.now self.now }
         ensures { IfOk result (λ meant. meant ≡ map (arc_meant variables.now (made_in self.now.drawing)) (map arc_of arcs.now)) }
     {
-        let mut meant = Vec::new(alloc);
+        let mut meant = Vec::with_capacity(alloc, arcs.len())?;
         for arc in arcs {
             meant.push(FreshArc {
                 to: self.meant(variables, arc.target),
@@ -122,7 +122,7 @@ impl Contractum<'_> {
         requires { IsReady variables.now self.now }
         ensures { IfOk result (λ fresh. fresh ≡ map (fresh_of (seen_in scopes.now «module») variables.now (made_in self.now.drawing)) (made_in self.now.drawing)) }
     {
-        let mut fresh = Vec::new(alloc);
+        let mut fresh = Vec::with_capacity(alloc, self.drawing.made.len())?;
         for sketch in self.drawing.made.as_slice() {
             fresh.push(self.node(alloc, scopes, module, variables, sketch)?)?;
         }

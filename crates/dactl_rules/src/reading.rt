@@ -42,7 +42,7 @@ fn term_of(part: &Part) -> &TermTree
 fn terms<'a>(alloc: Global, parts: &'a [Part]) -> Result<Vec<&'a TermTree>, Memory>
     ensures { IfOk result (λ terms. seen terms.items ≡ map term_of_part parts.now) }
 {
-    let mut terms = Vec::new(alloc);
+    let mut terms = Vec::with_capacity(alloc, parts.len())?;
     for part in parts {
         terms.push(term_of(part))?;
     }

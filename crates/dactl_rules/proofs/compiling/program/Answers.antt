@@ -1,4 +1,5 @@
-use Rattle.std.proofs.Common.{◌∙◌, map, refl, ap, sym, subst, inl, inr}
+use Rattle.std.proofs.Common.{◌≡◌, ◌∙◌, map, refl, ap, sym, subst, inl, inr}
+use Rattle.std.specs.List.{flat_map}
 use Rattle.std.proofs.lemmas.Result.{err_from_is_err_and}
 use Rattle.dactl_model.specs.Programs.{IsValid}
 use Rattle.std.specs.Borrow.{Bor}
@@ -6,6 +7,9 @@ use Rattle.dactl_meaning.specs.declared.tree.Text.{Text}
 use Rattle.dactl_meaning.specs.Meaning.{RuleFault, is_wide}
 use Rattle.dactl_symbols.specs.Least.{TellsLeast}
 use Rattle.dactl_rules.specs.Drafts.{IsDraft}
+use Rattle.dactl_symbols.specs.Scoping.{seen_in}
+use Rattle.dactl_symbols.specs.Sights.{Sights}
+use Rattle.dactl_rules.specs.Initials.{first_start, initials_in}
 use Rattle.dactl_rules.specs.Listing.{placed}
 use Rattle.dactl_rules.proofs.WholePrograms.{cycle_due, late_least, program_is, valid}
 use Rattle.dactl_rules.proofs.compiling.program.Goals as goal
@@ -17,25 +21,27 @@ returns-in_err-patterns-clause-faults c =
 
 pub returns-in-Some-clause-faults : goal.returns-in-Some-clause-faults
 returns-in-Some-clause-faults c =
-    let drafted = subst (λ (t : Bor Text). IsDraft t.now c.in_ok-written.field-0) c.in_ok-patterns.ensures.text c.in_ok-written.ensures in
+    let drafted = subst (λ (t : Bor Text). IsDraft t.now c.in_ok-compiled.compiled) c.in_ok-patterns.ensures.text c.in_ok-compiled.ensures.rules in
     late_least c.args.text.now c.in-Some.refusal c.in_ok-patterns.ensures.faults (subst (TellsLeast (RuleFault c.args.text.now)) c.in-Some.is drafted.tells)
 
 pub returns-clause-faults : goal.returns-clause-faults
 returns-clause-faults c =
-    let drafted = subst (λ (t : Bor Text). IsDraft t.now c.in_ok-written.field-0) c.in_ok-patterns.ensures.text c.in_ok-written.ensures in
+    let drafted = subst (λ (t : Bor Text). IsDraft t.now c.in_ok-compiled.compiled) c.in_ok-patterns.ensures.text c.in_ok-compiled.ensures.rules in
     let sound = subst (TellsLeast (RuleFault c.args.text.now)) c.in_default.is drafted.tells in
     λ r h. elim h [ inl cycle ↦ c.in_ok-patterns.ensures.faults r cycle | inr rule ↦ sound r rule ]
 
 pub returns-clause-meaning : goal.returns-clause-meaning
 returns-clause-meaning c =
-    let drafted = subst (λ (t : Bor Text). IsDraft t.now c.in_ok-written.field-0) c.in_ok-patterns.ensures.text c.in_ok-written.ensures in
+    let drafted = subst (λ (t : Bor Text). IsDraft t.now c.in_ok-compiled.compiled) c.in_ok-patterns.ensures.text c.in_ok-compiled.ensures.rules in
     c.in_ok-assemble.ensures
-    ∙ program_is c.args.text.now c.args.scopes.now c.requires (is_wide c.args.text.now) c.in_ok-written.field-0.rules.items (map placed c.as_slice-2.result.now) refl
-    (drafted.rules c.in_default.is) (ap (map placed) c.as_slice-2.ensures.value ∙ c.in_ok-items.ensures)
+    ∙ program_is c.args.text.now c.args.scopes.now c.requires (is_wide c.args.text.now) c.in_ok-compiled.compiled.rules.items c.in_ok-compiled.start (map placed c.as_slice.result.now) refl
+    (drafted.rules c.in_default.is)
+    (subst (λ (s : Bor Sights). c.in_ok-compiled.start ≡ first_start (seen_in s.now) (flat_map initials_in (map placed c.as_slice.result.now))) c.in_ok-patterns.ensures.scopes (c.in_ok-compiled.ensures.start c.in_default.is))
+    (ap (map placed) c.as_slice.ensures.value ∙ c.in_ok-items.ensures)
 
 pub returns-clause-valid : goal.returns-clause-valid
 returns-clause-valid c = λ spelled scope.
-    let drafted = subst (λ (t : Bor Text). IsDraft t.now c.in_ok-written.field-0) c.in_ok-patterns.ensures.text c.in_ok-written.ensures in
+    let drafted = subst (λ (t : Bor Text). IsDraft t.now c.in_ok-compiled.compiled) c.in_ok-patterns.ensures.text c.in_ok-compiled.ensures.rules in
     let sound = subst (TellsLeast (RuleFault c.args.text.now)) c.in_default.is drafted.tells in
     let counted = drafted.counted c.in_default.is c.if-group-ge-GROUP_NUMBERS.false in
     subst IsValid (sym (returns-clause-meaning c)) (valid c.args.text.now counted c.in_ok-patterns.ensures.faults sound spelled scope)
