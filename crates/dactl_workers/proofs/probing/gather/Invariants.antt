@@ -1,4 +1,5 @@
 use Rattle.std.proofs.Common.{◌≡◌, ◌-◌, All, length}
+use Rattle.dactl_model.specs.declared.reading.Reading.{Reading}
 use Rattle.dactl_shared.specs.Stores.{seen_of, program_of, SameCounts, WasShown}
 use Rattle.dactl_workers.specs.Turns.{MayReadBelow, MayReadTargets, HasLooked, IsReadSince}
 use Rattle.dactl_workers.proofs.probing.gather.Given as goal
@@ -14,6 +15,7 @@ invariant-loop-node g l = record {
   shown : All (WasShown l.store l.seat) l.probe.readings;
   since : All (IsReadSince (program_of l.store) (seen_of l.initial.seat) (seen_of l.seat)) l.probe.readings;
   targets : All (MayReadTargets l.store l.seat) l.probe.readings;
+  passed : All (λ (r : Reading). g.G.Gate.passed_after_read l.gate l.seat.number) l.probe.readings;
 }
 
 abbrev pub decreases-loop-node : goal.decreases-loop-node
