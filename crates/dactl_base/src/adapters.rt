@@ -1,5 +1,5 @@
-//! The thin adapters over std's readers and writers: the trusted edge. They pass on what std's object
-//! tells of its bytes, and count its errors.
+//! The thin adapters over std's readers and writers: the trusted edge. They pass on what std's
+//! object tells of its bytes, and count its errors.
 
 ghost use Rattle.std.specs.Prelude.{◌≡◌};
 
@@ -16,6 +16,7 @@ pub struct ReaderSource<R: Read> {
 }
 
 impl<R: Read> ReaderSource<R> {
+    /// A source that hands on what the reader gives from now on, and has counted no errors yet.
     pub fn new(reader: R) -> ReaderSource<R>
         ensures reader { result.reader ≡ reader }
         ensures none { result.errors ≡ 0 }
@@ -49,6 +50,7 @@ pub struct WriterSink<W: Write> {
 }
 
 impl<W: Write> WriterSink<W> {
+    /// A sink that hands on to the writer, behind what it holds, and has counted no errors yet.
     pub fn new(writer: W) -> WriterSink<W>
         ensures writer { result.writer ≡ writer }
         ensures none { result.errors ≡ 0 }

@@ -1,6 +1,7 @@
 //! Sources and sinks in memory: the fakes that tests hand in, and the ones that never fail.
 
-ghost use Rattle.std.specs.Prelude.{◌≡◌, ℕ, ◌<◌, ◌≤◌, [], ◌++◌, List, length, take, drop, min, Some, None, IfOk, OnErr, Contains, ◌↔◌, ◌⊎◌, IsErr};
+ghost use Rattle.std.specs.Prelude.{◌≡◌, ℕ, ◌<◌, ◌≤◌, [], ◌++◌, List, length, take, drop, min};
+ghost use Rattle.std.specs.Prelude.{Some, None, IfOk, OnErr, Contains, ◌↔◌, ◌⊎◌, IsErr};
 ghost use Rattle.std.specs.Io.KnownBytes.{ReadConsumes, WriteAppends};
 ghost use Rattle.dactl_base.specs.Faults.{Rose};
 ghost use Rattle.dactl_base.specs.Fakes.{FakeSource, FakeSink, one_more, given, taken, Refuses};
@@ -51,7 +52,13 @@ impl MemorySource {
     /// numbers, from 1, stand in `failing`.
     pub fn new(bytes: Vec<u8>, most: usize, failing: Vec<u64>) -> MemorySource
         requires { 0 < most }
-        ensures { result ≡ record { left = bytes.items; most = most; failing = failing.items; calls = 0; faults = 0 } }
+        ensures { result ≡ record {
+          left = bytes.items;
+          most = most;
+          failing = failing.items;
+          calls = 0;
+          faults = 0;
+        } }
     {
         MemorySource {
             bytes,
@@ -119,6 +126,10 @@ impl Model for MemorySink {
 impl MemorySink {
     /// A sink for `room` bytes that takes at most `most` a call, and fails at the calls whose
     /// numbers, from 1, stand in `failing` and where its room is full.
+    ///
+    /// # Errors
+    ///
+    /// `Memory` where there are no `room` bytes to be had; `failing` is gone then.
     pub fn new(
         alloc: Global,
         room: usize,
@@ -126,7 +137,14 @@ impl MemorySink {
         failing: Vec<u64>,
     ) -> Result<MemorySink, Memory>
         requires { 0 < most }
-        ensures { IfOk result (λ s. s ≡ record { held = []; room = room; most = most; failing = failing.items; calls = 0; faults = 0 }) }
+        ensures { IfOk result (λ s. s ≡ record {
+          held = [];
+          room = room;
+          most = most;
+          failing = failing.items;
+          calls = 0;
+          faults = 0;
+        }) }
     {
         Ok(MemorySink {
             bytes: vec![in alloc; 0; room]?,
@@ -190,6 +208,8 @@ impl Model for SteadySource {
 }
 
 impl SteadySource {
+    /// A source of these bytes, from the first on. It gives as many a call as are asked for and
+    /// left, and never fails.
     pub fn new(bytes: Vec<u8>) -> SteadySource
         ensures { result ≡ bytes.items }
     {

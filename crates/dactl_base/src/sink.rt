@@ -26,7 +26,12 @@ pub trait Sink {
         ensures cause { OnErr result (Rose (faults self.old) (faults self.new)) };
 }
 
-/// Writes all of `bytes`. After `Failed` the sink has taken a front of them.
+/// Writes all of `bytes`, in as many calls as the sink needs for them; none where there are none.
+///
+/// # Errors
+///
+/// `Failed` at the first call that fails, which is not made again. The sink has taken a front of
+/// the bytes then.
 pub fn write_all<K: Sink>(sink: &mut K, bytes: &[u8]) -> Result<(), Failed>
     ensures bytes { OnOk result (Appends (K.holds sink.old) (K.holds sink.new) bytes.now) }
     ensures front { OnErr result (AppendsFront (K.holds sink.old) (K.holds sink.new) bytes.now) }

@@ -1,6 +1,9 @@
 //! Tests of the new nodes, redirections and wakes of a contractum.
 ghost use Rattle.std.specs.Prelude.{◌≡◌, ◌≢◌, ◌<◌, ◌≤◌, ◌^◌, ◌↔◌, IsTrue, All, length};
-ghost use Rattle.dactl_model.specs.Programs.{IsMention, IsLeft, IsLabel, fresh_flags, IsFreshMark, IsFreshNode, fresh_arcs, AreFreshNodes, IsWritten, IsBody, IsDelta, IsBesideRoot, MaySuspend, is_narrow_label, AreNarrowNodes, IsNarrowBody};
+ghost use Rattle.dactl_model.specs.Programs.{IsMention, IsLeft, IsLabel, fresh_flags, IsFreshMark};
+ghost use Rattle.dactl_model.specs.Programs.{IsFreshNode, fresh_arcs, AreFreshNodes, IsWritten};
+ghost use Rattle.dactl_model.specs.Programs.{IsBody, IsDelta, IsBesideRoot, MaySuspend};
+ghost use Rattle.dactl_model.specs.Programs.{is_narrow_label, AreNarrowNodes, IsNarrowBody};
 ghost use Rattle.dactl_model.specs.Validity.{AreDistinctLefts};
 
 use crate::graph::{Label, Mark};
@@ -105,7 +108,8 @@ fn is_move(variables: u8, fresh: usize, step: Move) -> bool
 }
 
 fn are_moves(variables: u8, fresh: usize, moves: &[Move]) -> bool
-    ensures { IsTrue result ↔ All (λ m. IsLeft variables m.from × IsMention variables fresh m.to) moves.now }
+    ensures { IsTrue result ↔
+        All (λ m. IsLeft variables m.from × IsMention variables fresh m.to) moves.now }
 {
     moves.iter().all(|step| is_move(variables, fresh, *step))
 }

@@ -25,7 +25,11 @@ impl Model for Footprint {
 
     ghost Value = { Observed };
 
-    ghost view = { λ f. record { readings = f.readings.items; bindings = f.bindings.items; room = f.room } };
+    ghost view = { λ f. record {
+      readings = f.readings.items;
+      bindings = f.bindings.items;
+      room = f.room;
+    } };
 
     ghost invariant = { λ f. (f.room ≤ vec_capacity f.readings) × (64 ≤ vec_capacity f.bindings) };
 }
@@ -57,6 +61,10 @@ pub struct Attempt {
 
 impl Footprint {
     /// An empty footprint with room for so many readings.
+    ///
+    /// # Errors
+    ///
+    /// `Memory` where there is no room to be had for so many readings and 64 bindings.
     pub fn with_room(alloc: Global, readings: u32) -> Result<Footprint, Memory>
         ensures { IfOk result (λ f. f ≡ record { readings = []; bindings = []; room = readings }) }
     {
@@ -110,6 +118,10 @@ impl Footprint {
 
 impl Woken {
     /// An empty list with room for so many nodes.
+    ///
+    /// # Errors
+    ///
+    /// `Memory` where there is no room to be had for so many nodes.
     pub fn with_room(alloc: Global, nodes: u32) -> Result<Woken, Memory>
         ensures { IfOk result (λ w. w ≡ record { list = []; room = nodes }) }
     {

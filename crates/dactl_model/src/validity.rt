@@ -1,11 +1,17 @@
 //! The test of a program's validity.
-ghost use Rattle.std.specs.Prelude.{◌≡◌, ◌≢◌, ◌+◌, ◌<◌, ◌≤◌, ◌^◌, ◌↔◌, false, IsTrue, All, Some, length, slice_get};
+ghost use Rattle.std.specs.Prelude.{◌≡◌, ◌≢◌, ◌+◌, ◌<◌, ◌≤◌, ◌^◌, ◌↔◌, false, IsTrue, All, Some};
+ghost use Rattle.std.specs.Prelude.{length, slice_get};
 ghost use Rattle.dactl_model.specs.declared.program.Pat.TheOpen.{Pat-F};
 ghost use Rattle.dactl_model.specs.declared.program.Pat.TheViews.{roll-Pat};
 ghost use Rattle.dactl_model.specs.Binders as binders;
 ghost use Rattle.dactl_model.specs.Names.{is_upper_name};
-ghost use Rattle.dactl_model.specs.Programs.{integer_binder, arithmetic_pattern, arithmetic_rule, symbols_below, IsValidRule, IsValid, IsDelta, IsBody, IsNarrowRule, IsNarrowProgram};
-ghost use Rattle.dactl_model.specs.Validity.{HasVariables, AreDistinctNames, AreValidSymbols, HasArithmetic, HasSoundPattern, HasSoundVariables, HasSoundBody, AreValidRules, AreSoundRules, DoGroupsRise, IsSoundStart};
+ghost use Rattle.dactl_model.specs.Programs.{integer_binder, arithmetic_pattern, arithmetic_rule};
+ghost use Rattle.dactl_model.specs.Programs.{symbols_below, IsValidRule, IsValid, IsDelta, IsBody};
+ghost use Rattle.dactl_model.specs.Programs.{IsNarrowRule, IsNarrowProgram};
+ghost use Rattle.dactl_model.specs.Validity.{HasVariables, AreDistinctNames, AreValidSymbols};
+ghost use Rattle.dactl_model.specs.Validity.{HasArithmetic, HasSoundPattern, HasSoundVariables};
+ghost use Rattle.dactl_model.specs.Validity.{HasSoundBody, AreValidRules, AreSoundRules};
+ghost use Rattle.dactl_model.specs.Validity.{DoGroupsRise, IsSoundStart};
 
 use crate::contractum_checks::{
     are_fresh_nodes, are_narrow_nodes, is_body, is_delta, is_narrow_body, may_suspend,

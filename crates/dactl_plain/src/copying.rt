@@ -26,7 +26,11 @@ fn copied_nodes(alloc: Global, nodes: &[Node]) -> Result<Items<Node>, Memory>
     Ok(copy)
 }
 
-/// A copy of the graph.
+/// A copy of the graph, which shares nothing with it.
+///
+/// # Errors
+///
+/// When memory is wanting. Nothing is left of the copy then.
 pub fn copied(alloc: Global, graph: &Graph) -> Result<Graph, Memory>
     ensures { IfOk result (λ copy. copy ≡ graph.now) }
 {

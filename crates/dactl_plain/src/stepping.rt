@@ -40,8 +40,10 @@ fn allowed_match(
 ) -> Result<Option<Vec<NodeId>>, Memory>
     requires program { IsValid program.now }
     requires graph { IsWellFormed graph.now }
-    ensures found { IfOk result (λ found. IfSome found (λ h. MayHappen program.now graph.now h.items (Fire node rule))) }
-    ensures none { IfOk result (λ found. IfNone found (IsStepped program.now graph.now (Fire node rule) None)) }
+    ensures found { IfOk result (λ found. IfSome found (λ h.
+        MayHappen program.now graph.now h.items (Fire node rule))) }
+    ensures none { IfOk result (λ found. IfNone found (
+        IsStepped program.now graph.now (Fire node rule) None)) }
 {
     if !has_node(graph, node) || rule as usize >= program.rules.len() {
         return Ok(None);
