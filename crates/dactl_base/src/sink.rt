@@ -17,6 +17,11 @@ pub trait Sink {
     ghost faults: { Self → ℕ };
 
     /// Writes some bytes from the front of `piece`, at least one, and answers how many.
+    ///
+    /// # Errors
+    ///
+    /// `Failed` where the device refused the call or took no byte. The sink has taken nothing of
+    /// `piece` then.
     fn write(&mut self, piece: &[u8]) -> Result<usize, Failed>
         requires { 0 < length piece.now }
         ensures some { IfOk result (λ count. 0 < count) }

@@ -21,6 +21,11 @@ pub trait Source {
     ghost faults: { Self → ℕ };
 
     /// Reads the next bytes into the front of `into` and answers how many came: 0 at the end.
+    ///
+    /// # Errors
+    ///
+    /// `Failed` where the device refused the call. All bytes are still to come then, and `into` may
+    /// have been written over.
     fn read(&mut self, into: &mut [u8]) -> Result<usize, Failed>
         requires { 0 < length into.old }
         ensures within { IfOk result (λ count. count ≤ length into.new) }
