@@ -39,12 +39,17 @@ impl Model for Deciders {
 
     ghost view = { λ d. record { program = d.program; paths = d.paths.items; widest = d.widest } };
 
-    ghost invariant = { λ d. AreDecisions (record { program = d.program; paths = d.paths.items; widest = d.widest }) × AreListsBelow d.program.rules (length d.program.symbols) (length d.program.rules) d.rules.items × (d.orderly.items ≡ map is_orderly d.program.rules) };
+    ghost invariant = { λ d.
+        AreDecisions (record { program = d.program; paths = d.paths.items; widest = d.widest })
+        × AreListsBelow
+        d.program.rules (length d.program.symbols) (length d.program.rules) d.rules.items
+        × (d.orderly.items ≡ map is_orderly d.program.rules) };
 }
 
 /// A tree for each symbol, with the root's path alone.
 fn roots(alloc: Global, program: &Program) -> Result<Vec<PathTree>, Memory>
-    ensures { IfOk result (λ trees. AreTreesBelow program.now.rules (length program.now.symbols) 0 trees.items) }
+    ensures { IfOk result (λ trees.
+        AreTreesBelow program.now.rules (length program.now.symbols) 0 trees.items) }
 {
     let mut trees = Vec::new(alloc);
     for _ in 0..program.symbols.len() {
@@ -56,7 +61,9 @@ fn roots(alloc: Global, program: &Program) -> Result<Vec<PathTree>, Memory>
 /// For each symbol the paths at which the patterns of its rules test nodes.
 fn trees(alloc: Global, program: &Program) -> Result<Vec<PathTree>, Memory>
     requires { IsValid program.now }
-    ensures { IfOk result (λ trees. AreTreesBelow program.now.rules (length program.now.symbols) (length program.now.rules) trees.items) }
+    ensures { IfOk result (λ trees.
+        AreTreesBelow program.now.rules
+        (length program.now.symbols) (length program.now.rules) trees.items) }
 {
     let mut trees = roots(alloc, program)?;
     for rule in program.rules.as_slice() {
@@ -67,7 +74,8 @@ fn trees(alloc: Global, program: &Program) -> Result<Vec<PathTree>, Memory>
 
 /// An empty list for each symbol.
 fn no_rules(alloc: Global, program: &Program) -> Result<Vec<Vec<u32>>, Memory>
-    ensures { IfOk result (λ lists. AreListsBelow program.now.rules (length program.now.symbols) 0 lists.items) }
+    ensures { IfOk result (λ lists.
+        AreListsBelow program.now.rules (length program.now.symbols) 0 lists.items) }
 {
     let mut lists = Vec::new(alloc);
     for _ in 0..program.symbols.len() {
@@ -79,7 +87,9 @@ fn no_rules(alloc: Global, program: &Program) -> Result<Vec<Vec<u32>>, Memory>
 /// For each symbol the numbers of its rules.
 fn rules_by_symbol(alloc: Global, program: &Program) -> Result<Vec<Vec<u32>>, Memory>
     requires { IsValid program.now }
-    ensures { IfOk result (λ lists. AreListsBelow program.now.rules (length program.now.symbols) (length program.now.rules) lists.items) }
+    ensures { IfOk result (λ lists.
+        AreListsBelow program.now.rules
+        (length program.now.symbols) (length program.now.rules) lists.items) }
 {
     let mut lists = no_rules(alloc, program)?;
     for (number, rule) in program.rules.as_slice().iter().enumerate() {
@@ -122,9 +132,13 @@ fn greatest(paths: &[u32]) -> u32
     widest
 }
 
-/// Compiles the rules of a valid program. `Memory` comes for want of memory, and where the rules of
-/// one symbol test nodes at 2^32 different paths or more. The time is that of reading the program
-/// and of adding up the arguments of its patterns.
+/// Compiles the rules of a valid program, of which the deciders keep a copy. The time is that of
+/// reading the program and of adding up the arguments of its patterns.
+///
+/// # Errors
+///
+/// `Memory` for want of memory, and where the rules of one symbol test nodes at 2^32 different
+/// paths or more. Nothing is left of the deciders then.
 pub fn compile(alloc: Global, program: &Program) -> Result<Deciders, Memory>
     requires { IsValid program.now }
     ensures same { IfOk result (λ deciders. deciders.program ≡ program.now) }

@@ -1,5 +1,6 @@
 //! The places of the tests of patterns.
-ghost use Rattle.std.specs.Prelude.{◌≡◌, ◌≤◌, ◌^◌, ◌||◌, ℕ, false, List, OnOk, IfSome, IfNone, length, map, sum};
+ghost use Rattle.std.specs.Prelude.{◌≡◌, ◌≤◌, ◌^◌, ◌||◌, ℕ, false, List, OnOk, IfSome, IfNone};
+ghost use Rattle.std.specs.Prelude.{length, map, sum};
 ghost use Rattle.dactl_decide.specs.Paths.{is_root, tests, tests_below};
 ghost use Rattle.dactl_decide.specs.PathTrees.{has, size};
 
@@ -39,7 +40,8 @@ impl PathTree {
 /// Makes the list at least so long, by trees without tests.
 fn widen(alloc: Global, trees: &mut Vec<PathTree>, count: usize) -> Result<(), Memory>
     ensures long { OnOk result (count ≤ length trees.new.items) }
-    ensures same { OnOk result ((path : List ℕ) → tests_below (map has trees.new.items) path ≡ tests_below (map has trees.old.items) path) }
+    ensures same { OnOk result ((path : List ℕ) →
+        tests_below (map has trees.new.items) path ≡ tests_below (map has trees.old.items) path) }
 {
     for _ in trees.len()..count {
         trees.push(PathTree::untested(alloc))?;
@@ -48,9 +50,14 @@ fn widen(alloc: Global, trees: &mut Vec<PathTree>, count: usize) -> Result<(), M
 }
 
 /// Adds the places at which the pattern tests nodes.
+///
+/// # Errors
+///
+/// `Memory` where the tree cannot grow. Some of the places may have been added then.
 #[cycle(add)]
 pub fn add(alloc: Global, pattern: &Pat, tree: &mut PathTree) -> Result<(), Memory>
-    ensures { OnOk result ((path : List ℕ) → has tree.new path ≡ (has tree.old path || tests pattern.now path)) }
+    ensures { OnOk result ((path : List ℕ) →
+        has tree.new path ≡ (has tree.old path || tests pattern.now path)) }
 {
     match pattern {
         Pat::Any => {}
@@ -77,7 +84,9 @@ pub fn add(alloc: Global, pattern: &Pat, tree: &mut PathTree) -> Result<(), Memo
 #[cycle(add)]
 fn add_each(alloc: Global, patterns: &[Pat], trees: &mut Vec<PathTree>) -> Result<(), Memory>
     requires { length patterns.now ≤ length trees.old.items }
-    ensures { OnOk result ((path : List ℕ) → tests_below (map has trees.new.items) path ≡ (tests_below (map has trees.old.items) path || tests_below (map tests patterns.now) path)) }
+    ensures { OnOk result ((path : List ℕ) →
+        tests_below (map has trees.new.items) path ≡
+        (tests_below (map has trees.old.items) path || tests_below (map tests patterns.now) path)) }
 {
     for (place, pattern) in patterns.iter().enumerate() {
         add(alloc, pattern, &mut trees[place])?;

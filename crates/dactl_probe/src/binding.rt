@@ -54,7 +54,8 @@ fn first_bound_each(
     targets: &[NodeId],
     variable: u8,
 ) -> Option<NodeId>
-    ensures { result ≡ first_node (told_all (map (told readings.now) patterns.now) targets.now).pairs variable }
+    ensures { result ≡
+        first_node (told_all (map (told readings.now) patterns.now) targets.now).pairs variable }
 {
     for (place, pattern) in patterns.iter().enumerate() {
         if place >= targets.len() {
@@ -80,7 +81,9 @@ fn is_at(bound: Option<NodeId>, node: NodeId) -> bool
 /// whole pattern, which is laid at the root.
 #[cycle(agree)]
 fn agrees(readings: &[Reading], pattern: &Pat, node: NodeId, whole: &Pat, root: NodeId) -> bool
-    ensures { result ≡ list_all (is_first (told readings.now whole.now root).pairs) (told readings.now pattern.now node).pairs }
+    ensures { result ≡ list_all
+        (is_first (told readings.now whole.now root).pairs)
+        (told readings.now pattern.now node).pairs }
 {
     match pattern {
         Pat::Any | Pat::Int | Pat::Char | Pat::Literal(_) | Pat::Letter(_) => true,
@@ -112,7 +115,9 @@ fn each_agrees(
     whole: &Pat,
     root: NodeId,
 ) -> bool
-    ensures { result ≡ list_all (is_first (told readings.now whole.now root).pairs) (told_all (map (told readings.now) patterns.now) targets.now).pairs }
+    ensures { result ≡ list_all
+        (is_first (told readings.now whole.now root).pairs)
+        (told_all (map (told readings.now) patterns.now) targets.now).pairs }
 {
     for (place, pattern) in patterns.iter().enumerate() {
         if place >= targets.len() {
@@ -137,7 +142,8 @@ pub fn has_no_conflict(readings: &[Reading], pattern: &Pat, node: NodeId) -> boo
 #[cycle(push)]
 pub fn push_bound(footprint: &mut Footprint, pattern: &Pat, node: NodeId)
     requires { HasRoomFor footprint.old (told footprint.old.readings pattern.now node).pairs }
-    ensures { footprint.new ≡ with_nodes footprint.old (told footprint.old.readings pattern.now node).pairs }
+    ensures { footprint.new ≡
+        with_nodes footprint.old (told footprint.old.readings pattern.now node).pairs }
 {
     match pattern {
         Pat::Any | Pat::Int | Pat::Char | Pat::Literal(_) | Pat::Letter(_) => {}
@@ -162,8 +168,10 @@ pub fn push_bound(footprint: &mut Footprint, pattern: &Pat, node: NodeId)
 /// The same for the patterns, each at the target at its place.
 #[cycle(push)]
 fn push_each_bound(footprint: &mut Footprint, patterns: &[Pat], targets: &[NodeId])
-    requires { HasRoomFor footprint.old (told_all (map (told footprint.old.readings) patterns.now) targets.now).pairs }
-    ensures { footprint.new ≡ with_nodes footprint.old (told_all (map (told footprint.old.readings) patterns.now) targets.now).pairs }
+    requires { HasRoomFor footprint.old
+        (told_all (map (told footprint.old.readings) patterns.now) targets.now).pairs }
+    ensures { footprint.new ≡ with_nodes footprint.old
+        (told_all (map (told footprint.old.readings) patterns.now) targets.now).pairs }
 {
     for (place, pattern) in patterns.iter().enumerate() {
         if place >= targets.len() {

@@ -1,5 +1,6 @@
 //! Rules that no further reading revives.
-ghost use Rattle.std.specs.Prelude.{◌≡◌, ℕ, ◌+◌, ◌^◌, ◌<◌, ◌≤◌, ◌⊎◌, All, AllPairs, IsTrue, length, take};
+ghost use Rattle.std.specs.Prelude.{◌≡◌, ℕ, ◌+◌, ◌^◌, ◌<◌, ◌≤◌, ◌⊎◌, All, AllPairs, IsTrue, length};
+ghost use Rattle.std.specs.Prelude.{take};
 ghost use Rattle.dactl_probe.specs.Lost.{IsKnownLost};
 
 use crate::marks::Marks;

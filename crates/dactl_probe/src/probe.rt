@@ -47,7 +47,13 @@ impl<'a> Model for Probe<'a> {
 
     ghost use Rattle.dactl_probe.specs.Tracing.{next_of, IsSound};
 
-    ghost view = { λ p. record { decisions = p.deciders.now; node = p.node; readings = p.footprint.readings; room = p.footprint.room; next = next_of p.verdict } };
+    ghost view = { λ p. record {
+      decisions = p.deciders.now;
+      node = p.node;
+      readings = p.footprint.readings;
+      room = p.footprint.room;
+      next = next_of p.verdict;
+    } };
 
     ghost invariant = { λ p. IsSound p.deciders.now p.node p.footprint p.verdict p.lost };
 }
@@ -56,7 +62,9 @@ impl<'a> Model for Probe<'a> {
 fn push_by_variable(footprint: &mut Footprint, rule: &Rule, node: NodeId)
     requires empty { footprint.old.bindings ≡ [] }
     requires few { rule.now.variables ≤ 64 }
-    ensures { footprint.new ≡ record footprint.old { bindings = bindings_told footprint.old.readings node rule.now } }
+    ensures { footprint.new ≡ record footprint.old {
+      bindings = bindings_told footprint.old.readings node rule.now;
+    } }
 {
     for variable in 0..rule.variables {
         let found = bound(footprint.readings(), rule, node, variable);
@@ -71,7 +79,9 @@ fn push_bindings(footprint: &mut Footprint, rule: &Rule, orderly: bool, node: No
     requires few { rule.now.variables ≤ 64 }
     requires orderly { orderly ≡ true → is_orderly rule.now ≡ true }
     requires yes { (told footprint.old.readings rule.now.pattern node).value ≡ Yes }
-    ensures { footprint.new ≡ record footprint.old { bindings = bindings_told footprint.old.readings node rule.now } }
+    ensures { footprint.new ≡ record footprint.old {
+      bindings = bindings_told footprint.old.readings node rule.now;
+    } }
 {
     if orderly {
         push_bound(footprint, &rule.pattern, node);
@@ -85,7 +95,13 @@ impl<'a> Probe<'a> {
     /// room of `widest` readings always suffices.
     pub fn start(deciders: &'a Deciders, node: NodeId, mut room: Footprint) -> Probe<'a>
         requires { deciders.now.widest ≤ room.room }
-        ensures begun { result ≡ record { decisions = deciders.now; node = node; readings = []; room = room.room; next = Next.Need node } }
+        ensures begun { result ≡ record {
+          decisions = deciders.now;
+          node = node;
+          readings = [];
+          room = room.room;
+          next = Next.Need node;
+        } }
         ensures probing { IsProbing result }
     {
         room.clear();
@@ -114,7 +130,10 @@ impl<'a> Probe<'a> {
     /// Takes the reading of the node that the probe asked for.
     pub fn step(&mut self, reading: Reading) -> Next
         requires { self.old.next ≡ Next.Need reading.node }
-        ensures taken { self.new ≡ record self.old { readings = self.old.readings ++ reading ∷ []; next = result } }
+        ensures taken { self.new ≡ record self.old {
+          readings = self.old.readings ++ reading ∷ [];
+          next = result;
+        } }
         ensures probing { IsProbing self.new }
     {
         self.footprint.push_reading(reading);
@@ -132,7 +151,8 @@ impl<'a> Probe<'a> {
     /// taken, and for a firing the node of each variable of its rule.
     pub fn attempt(self) -> Attempt
         requires { self.next ≡ Next.Done }
-        ensures shows { Shows self.entry.decisions.program result.footprint.readings result.footprint.bindings result.event }
+        ensures shows { Shows self.entry.decisions.program
+            result.footprint.readings result.footprint.bindings result.event }
         ensures node { node_of_event result.event ≡ self.entry.node }
         ensures readings { result.footprint.readings ≡ self.entry.readings }
         ensures room { result.footprint.room ≡ self.entry.room }

@@ -25,7 +25,9 @@ pub fn targets_of(reading: &Reading) -> &[NodeId]
 
 /// Whether the node has the symbol and so many targets.
 pub fn has_shape(reading: &Reading, symbol: u32, arity: usize) -> bool
-    ensures { result ≡ (has_symbol reading.now.label symbol && (arity == length (targets_of reading.now.targets))) }
+    ensures { result ≡
+        (has_symbol reading.now.label symbol
+        && (arity == length (targets_of reading.now.targets))) }
 {
     reading.label.has_symbol(symbol) && arity == targets_of(reading).len()
 }

@@ -3,7 +3,8 @@ ghost use Rattle.std.specs.Prelude.{◌≡◌, ◌<◌, ◌↔◌, true, IsTrue,
 ghost use Rattle.dactl_model.specs.Matching.{bound_node};
 ghost use Rattle.dactl_model.specs.Programs.{IsDelta};
 ghost use Rattle.dactl_model.specs.Readings.{reading_of, told};
-ghost use Rattle.dactl_model.specs.RuleTold.{no_conflict, bindings_told, integer_read, HasResultTold};
+ghost use Rattle.dactl_model.specs.RuleTold.{no_conflict, bindings_told, integer_read};
+ghost use Rattle.dactl_model.specs.RuleTold.{HasResultTold};
 ghost use Rattle.dactl_decide.specs.Orders.{is_orderly};
 ghost use Rattle.dactl_probe.specs.Lost.{AreLost};
 ghost use Rattle.dactl_probe.specs.Verdicts.{IsRuleFound, IsNumberFound};
@@ -51,7 +52,9 @@ fn integer_read(readings: &[Reading], node: NodeId) -> i128
 /// Whether the result of the rule, if it is an arithmetic one, is in the range of its program.
 fn has_result(wide: bool, readings: &[Reading], rule: &Rule, node: NodeId) -> bool
     requires { IsDelta rule.now.body → rule.now.variables ≡ 2 }
-    ensures { IsTrue result ↔ HasResultTold wide rule.now.body readings.now (bindings_told readings.now node rule.now) }
+    ensures { IsTrue result ↔
+        HasResultTold wide rule.now.body readings.now
+        (bindings_told readings.now node rule.now) }
 {
     match &rule.body {
         Body::Written { .. } => true,

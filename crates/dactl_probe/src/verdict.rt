@@ -1,7 +1,8 @@
 //! What readings decide.
 ghost use Rattle.dactl_decide.specs.Decisions.{AreDecisions};
 ghost use Rattle.dactl_probe.specs.Lost.{AreLost};
-ghost use Rattle.dactl_probe.specs.Verdicts.{IsFirstOpen, IsFirstWaiting, IsYesBeside, HasSymbolRead, IsVerdict};
+ghost use Rattle.dactl_probe.specs.Verdicts.{IsFirstOpen, IsFirstWaiting, IsYesBeside};
+ghost use Rattle.dactl_probe.specs.Verdicts.{HasSymbolRead, IsVerdict};
 
 use crate::lost::Lost;
 use crate::reading::reading_of;
