@@ -43,9 +43,12 @@ impl Store {
     fn append_arcs(&mut self, owner: NodeId, first: u32, bindings: &[NodeId], arcs: &[FreshArc])
         requires owner { TakesArcs self.old owner (length arcs.now) }
         requires fits { self.old.room.nodes < 2 ^ 32 }
-        requires targets { All (λ a. IsTarget self.old.room.nodes first bindings.now a.to) arcs.now }
+        requires targets { All
+            (λ a. IsTarget self.old.room.nodes first bindings.now a.to)
+            arcs.now }
         ensures { self.new ≡ record self.old {
-          graph = with_arcs self.old.graph owner (map (fresh_arc first bindings.now (λ x. x)) arcs.now);
+          graph = with_arcs self.old.graph owner
+              (map (fresh_arc first bindings.now (λ x. x)) arcs.now);
         } }
     {
         for arc in arcs {

@@ -1,13 +1,15 @@
 //! Notification: a node gives up its activity, and those that wait for it wait for one fewer.
 
-ghost use Rattle.std.specs.Prelude.{◌≡◌, ◌<◌, ◌≤◌, ◌&&◌, not, [], IsTrue, All, length, map, slice_set};
+ghost use Rattle.std.specs.Prelude.{◌≡◌, ◌<◌, ◌≤◌, ◌&&◌, not, [], IsTrue, All, length, map};
+ghost use Rattle.std.specs.Prelude.{slice_set};
 ghost use Rattle.dactl_arcs.specs.Pool.{targets};
 ghost use Rattle.dactl_model.specs.declared.graph.Event.TheVariants.{Note};
 ghost use Rattle.dactl_model.specs.Graphs.{HasNode};
 ghost use Rattle.dactl_model.specs.Acts.{marks_active, acts_of_step};
 ghost use Rattle.dactl_model.specs.Noting.{noted_mark, noted};
 ghost use Rattle.dactl_store.specs.Table.{record_of};
-ghost use Rattle.dactl_store.specs.Notifying.{HasOwners, HasNotified, AreNotified, IsWokenList, wakes_owner};
+ghost use Rattle.dactl_store.specs.Notifying.{HasOwners, HasNotified, AreNotified, IsWokenList};
+ghost use Rattle.dactl_store.specs.Notifying.{wakes_owner};
 
 use crate::store::Store;
 use crate::table::NodeTable;
@@ -36,7 +38,8 @@ fn is_woken(before: Mark, after: Mark) -> bool
 // Notifies the owner of an arc along which it waits, and adds it to the list where it becomes active.
 fn notify_owner(nodes: &mut NodeTable, owner: u32, woken: &mut Woken)
     requires owner { owner < length nodes.old.records }
-    requires room { IsTrue (wakes_owner owner nodes.old.records) → length woken.old.list < woken.old.room }
+    requires room { IsTrue (wakes_owner owner nodes.old.records) →
+        length woken.old.list < woken.old.room }
     ensures { HasNotified owner nodes.old woken.old nodes.new woken.new }
 {
     let before = nodes.get(owner).mark;

@@ -30,7 +30,8 @@ fn read_along(arcs: &ArcPool, node: NodeRecord) -> (Targets, u32)
     requires within { IsWithin arcs.now.arcs node.span }
     requires fits { length arcs.now.arcs < 2 ^ 32 }
     requires few { node.span.count ≤ 16 }
-    ensures targets { targets_of result.0 ≡ map (λ a. (arc_of a).target) (own_part arcs.now.arcs node.span) }
+    ensures targets { targets_of result.0 ≡
+        map (λ a. (arc_of a).target) (own_part arcs.now.arcs node.span) }
     ensures version { result.1 ≡ version_of arcs.now.changed node }
 {
     let mut nodes = [NodeId { number: 0 }; 16];

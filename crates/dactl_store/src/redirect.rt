@@ -1,7 +1,8 @@
 //! Redirection: all arcs into a node lead to another.
 
 ghost use Rattle.std.specs.Prelude.{◌≡◌, ◌≤◌, length, take};
-ghost use Rattle.dactl_store.specs.Redirecting.{number_pairs, AreNodes, IsLatest, sent, redirected, IsVersioned};
+ghost use Rattle.dactl_store.specs.Redirecting.{number_pairs, AreNodes, IsLatest, sent, redirected};
+ghost use Rattle.dactl_store.specs.Redirecting.{IsVersioned};
 
 use crate::store::Store;
 use dactl_arcs::moved_number;

@@ -21,6 +21,11 @@ pub enum BeginCause {
 impl Store {
     /// A store with the first graph of a program, and room for so many nodes and arcs. It takes all the
     /// memory that it will ever have.
+    ///
+    /// # Errors
+    /// `Small` where the start has more nodes or more arcs than there is room for, with both counts; `Memory`
+    /// where it has not, and there was not the memory, or the room is for more nodes than a pool of arcs can
+    /// have, which is `dactl_arcs::MOST_TARGETS`.
     pub fn begin(alloc: Global, start: &Start, room: Room) -> Result<Store, BeginCause>
         requires { IsStart start.now }
         ensures ok { IfOk result (IsBegun start.now room) }

@@ -1,12 +1,15 @@
 //! The store.
 
-ghost use Rattle.std.specs.Prelude.{◌≡◌, ◌+◌, ◌<◌, ◌≤◌, ◌^◌, [], ◌∷◌, ◌++◌, length, map, slice_get, Some, IfOk, MatchOption, MatchBool};
+ghost use Rattle.std.specs.Prelude.{◌≡◌, ◌+◌, ◌<◌, ◌≤◌, ◌^◌, [], ◌∷◌, ◌++◌, length, map, slice_get};
+ghost use Rattle.std.specs.Prelude.{Some, IfOk, MatchOption, MatchBool};
 ghost use Rattle.dactl_active.specs.Ring.{turned};
 ghost use Rattle.dactl_model.specs.Graphs.{HasNode};
 ghost use Rattle.dactl_model.specs.Matching.{IsActive};
 ghost use Rattle.dactl_model.specs.Ending.{IsPassive};
 ghost use Rattle.dactl_store.specs.Table.{ring_with};
-ghost use Rattle.dactl_store.specs.Held.{IsValid, HasActive, left_in, with_node, with_mark, with_arcs, node_with, arc_to, HasFreeNode, HasFreeArc, IsLast};
+ghost use Rattle.dactl_store.specs.Held.{IsValid, HasActive, left_in, with_node, with_mark};
+ghost use Rattle.dactl_store.specs.Held.{with_arcs, node_with, arc_to, HasFreeNode, HasFreeArc};
+ghost use Rattle.dactl_store.specs.Held.{IsLast};
 
 use crate::table::{NodeRecord, NodeTable, Span};
 use dactl_active::Memory;
@@ -91,7 +94,9 @@ impl Store {
 
     /// An active node, if there is one; the ring turns by one, so that each active node has its turn.
     pub fn active(&mut self) -> Option<NodeId>
-        ensures front { MatchOption result (self.old.active ≡ []) (λ n. slice_get self.old.active 0 ≡ Some n.number) }
+        ensures front { MatchOption result
+            (self.old.active ≡ [])
+            (λ n. slice_get self.old.active 0 ≡ Some n.number) }
         ensures active { MatchOption result (IsPassive self.old.graph) (IsActive self.old.graph) }
         ensures turned { self.new ≡ record self.old { active = turned self.old.active } }
         ensures valid { IsValid self.new }
@@ -143,7 +148,9 @@ impl Store {
         requires free { HasFreeArc self.old }
         requires owner { IsLast self.old.graph owner }
         requires target { target.number < self.old.room.nodes }
-        ensures { self.new ≡ record self.old { graph = with_arcs self.old.graph owner (arc_to target waits ∷ []) } }
+        ensures { self.new ≡ record self.old {
+          graph = with_arcs self.old.graph owner (arc_to target waits ∷ []);
+        } }
     {
         let added = self.arcs.add(owner.number, target.number, waits);
         let Ok(_) = added else { unreachable!() };

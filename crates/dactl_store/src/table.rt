@@ -1,9 +1,11 @@
 //! The nodes of a graph without their arcs, and the ring of those that are active.
 
-ghost use Rattle.std.specs.Prelude.{◌≡◌, ◌+◌, ◌<◌, ◌≤◌, [], ◌∷◌, ◌++◌, length, slice_get, slice_set, Some, IfOk};
+ghost use Rattle.std.specs.Prelude.{◌≡◌, ◌+◌, ◌<◌, ◌≤◌, [], ◌∷◌, ◌++◌, length, slice_get};
+ghost use Rattle.std.specs.Prelude.{slice_set, Some, IfOk};
 ghost use Rattle.dactl_active.specs.Ring.{has, turned};
 ghost use Rattle.dactl_model.specs.Acts.{marks_active};
-ghost use Rattle.dactl_store.specs.Table.{record_of, is_active, ring_with, marked, longer, IsValidTable};
+ghost use Rattle.dactl_store.specs.Table.{record_of, is_active, ring_with, marked, longer};
+ghost use Rattle.dactl_store.specs.Table.{IsValidTable};
 
 use crate::slot::Slot;
 use dactl_active::{Memory, Ring};
@@ -41,7 +43,11 @@ impl Model for NodeTable {
 
     ghost Value = { Table };
 
-    ghost view = { λ t. record { records = t.records.items; active = t.ring.numbers; room = t.room } };
+    ghost view = { λ t. record {
+      records = t.records.items;
+      active = t.ring.numbers;
+      room = t.room;
+    } };
 
     ghost invariant = { λ t. IsTable t.records.items t.ring t.room (vec_capacity t.records) };
 }
@@ -71,6 +77,9 @@ fn place(ring: &mut Ring, node: u32, before: Mark, after: Mark)
 
 impl NodeTable {
     /// An empty table with room for so many nodes.
+    ///
+    /// # Errors
+    /// `Memory` where there is no room to be had for so many nodes, and for a ring of so many.
     pub fn with_room(alloc: Global, nodes: u32) -> Result<NodeTable, Memory>
         ensures { IfOk result (λ t. t ≡ record { records = []; active = []; room = nodes }) }
     {
