@@ -39,7 +39,7 @@ pub trait CrewBoard: Board + Drop {
     /// A board with so many hands, which have done nothing.
     ///
     /// # Errors
-    /// Memory where there is none.
+    /// Memory where there is none. Nothing is left of the board then.
     fn make(alloc: Global, hands: u8) -> Result<(Self, Vec<Self::Hand>), Memory>
     where
         Self: Sized,

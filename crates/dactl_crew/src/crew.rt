@@ -109,6 +109,9 @@ where
 }
 
 /// So many workers over the state, of which each reads at most `widest` nodes to try one.
+///
+/// # Errors
+/// Memory where there is none. The state is gone then, with its program.
 pub fn gather<B: CrewBoard>(
     alloc: Global,
     state: State,

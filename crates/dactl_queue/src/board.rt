@@ -1,6 +1,7 @@
 //! What a board is.
 
-ghost use Rattle.std.specs.Prelude.{◌≡◌, ℕ, ◌+◌, ◌^◌, ◌-◌, ◌<◌, ◌++◌, ◌∷◌, [], List, MatchResult, MatchOption};
+ghost use Rattle.std.specs.Prelude.{◌≡◌, ℕ, ◌+◌, ◌^◌, ◌-◌, ◌<◌, ◌++◌, ◌∷◌, [], List, MatchResult};
+ghost use Rattle.std.specs.Prelude.{MatchOption};
 ghost use Rattle.dactl_model.specs.declared.graph.NodeId.{NodeId};
 
 use dactl_model::graph::NodeId;
@@ -27,6 +28,10 @@ pub trait Board {
     ghost back: { Self.Hand → ℕ };
 
     /// Puts a node on the board, or hands it back where the board does not take it.
+    ///
+    /// # Errors
+    /// The node itself, where the board does not take it. It is counted among those handed back,
+    /// and what the hand put is as it was.
     fn offer<R: Wait>(&self, rt: &R, hand: &mut Self::Hand, node: NodeId) -> Result<(), NodeId>
         requires hand { fits self.now hand.old }
         requires backs { back hand.old < 2 ^ 64 - 1 }

@@ -40,13 +40,19 @@ pub struct RuledHand {
 }
 
 impl RuledBoard {
-    ghost use Rattle.std.specs.Prelude.{ℕ, ◌+◌, ◌*◌, ◌<◌, ◌++◌, [], All, List, length, IfOk, vec_len};
+    ghost use Rattle.std.specs.Prelude.{ℕ, ◌+◌, ◌*◌, ◌<◌, ◌++◌, [], All, List, length, IfOk};
+    ghost use Rattle.std.specs.Prelude.{vec_len};
     ghost use Rattle.crossbeam_queue.specs.Passes.{view};
     ghost use Rattle.dactl_model.specs.declared.graph.NodeId.{NodeId};
     ghost use Rattle.dactl_queue.specs.Accounts.{Balances};
-    ghost use Rattle.dactl_queue.specs.Boards.{put_of, taken_of, room_of, hands_of, share_of, parts_of, puts_of, takes_of, HandFits, IsFresh, IsSameBoard, IsOneOf};
+    ghost use Rattle.dactl_queue.specs.Boards.{put_of, taken_of, room_of, hands_of, share_of};
+    ghost use Rattle.dactl_queue.specs.Boards.{parts_of, puts_of, takes_of, HandFits, IsFresh};
+    ghost use Rattle.dactl_queue.specs.Boards.{IsSameBoard, IsOneOf};
 
     /// A board with room for `room` nodes, and its hands, which have done nothing.
+    ///
+    /// # Errors
+    /// Memory where there is none. Nothing is left of the board then.
     pub fn new(alloc: Global, room: u32, hands: u8) -> Result<(RuledBoard, Vec<RuledHand>), Memory>
         requires room { 0 < room }
         requires hands { 0 < hands }
@@ -152,11 +158,13 @@ impl RuledHand {
 }
 
 impl Board for RuledBoard {
-    ghost use Rattle.std.specs.Prelude.{ℕ, ◌+◌, ◌^◌, ◌-◌, ◌<◌, ◌++◌, ◌∷◌, [], List, length, MatchResult, MatchOption, OnErr, IfNone};
+    ghost use Rattle.std.specs.Prelude.{ℕ, ◌+◌, ◌^◌, ◌-◌, ◌<◌, ◌++◌, ◌∷◌, [], List, length};
+    ghost use Rattle.std.specs.Prelude.{MatchResult, MatchOption, OnErr, IfNone};
     ghost use Rattle.crossbeam_queue.specs.Fifo.{Held};
     ghost use Rattle.dactl_model.specs.declared.graph.NodeId.{NodeId};
     ghost use Rattle.dactl_queue.specs.Accounts.{IsMoment};
-    ghost use Rattle.dactl_queue.specs.Boards.{account_of, put_of, taken_of, back_of, room_of, hands_of, HandFits};
+    ghost use Rattle.dactl_queue.specs.Boards.{account_of, put_of, taken_of, back_of, room_of};
+    ghost use Rattle.dactl_queue.specs.Boards.{hands_of, HandFits};
 
     type Hand = RuledHand;
 

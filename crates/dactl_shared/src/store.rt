@@ -92,7 +92,7 @@ impl SharedStore {
     /// numbers from 1.
     ///
     /// # Errors
-    /// Memory where there is none.
+    /// Memory where there is none. The state is gone then, with its program.
     pub fn new(
         alloc: Global,
         state: State,

@@ -46,13 +46,19 @@ pub struct StealHand {
 }
 
 impl StealBoard {
-    ghost use Rattle.std.specs.Prelude.{◌≡◌, ℕ, ◌+◌, ◌^◌, ◌<◌, ◌++◌, [], All, List, length, IfOk, vec_len};
+    ghost use Rattle.std.specs.Prelude.{◌≡◌, ℕ, ◌+◌, ◌^◌, ◌<◌, ◌++◌, [], All, List, length, IfOk};
+    ghost use Rattle.std.specs.Prelude.{vec_len};
     ghost use Rattle.dactl_model.specs.declared.graph.NodeId.{NodeId};
     ghost use Rattle.dactl_queue.specs.Accounts.{Balances};
-    ghost use Rattle.dactl_steal.specs.Boards.{put_of, taken_of, room_of, hands_of, parts_of, puts_of, takes_of, HandFits, IsBoard, IsFresh, IsSameBoard};
+    ghost use Rattle.dactl_steal.specs.Boards.{put_of, taken_of, room_of, hands_of, parts_of};
+    ghost use Rattle.dactl_steal.specs.Boards.{puts_of, takes_of, HandFits, IsBoard, IsFresh};
+    ghost use Rattle.dactl_steal.specs.Boards.{IsSameBoard};
 
     /// A board with a deque for each of so many hands, of which each has a reserve for `room`
     /// nodes, and its hands, which have done nothing.
+    ///
+    /// # Errors
+    /// Memory where there is none. Nothing is left of the board then.
     pub fn new(alloc: Global, room: u32, hands: u8) -> Result<(StealBoard, Vec<StealHand>), Memory>
         requires room { 0 < room }
         requires hands { 0 < hands }
@@ -161,9 +167,11 @@ impl StealHand {
 }
 
 impl Board for StealBoard {
-    ghost use Rattle.std.specs.Prelude.{◌≡◌, ℕ, ◌+◌, ◌^◌, ◌-◌, ◌<◌, ◌≤◌, ◌++◌, ◌∷◌, [], List, length, MatchResult, MatchOption, OnErr, IfNone};
+    ghost use Rattle.std.specs.Prelude.{◌≡◌, ℕ, ◌+◌, ◌^◌, ◌-◌, ◌<◌, ◌≤◌, ◌++◌, ◌∷◌, [], List};
+    ghost use Rattle.std.specs.Prelude.{length, MatchResult, MatchOption, OnErr, IfNone};
     ghost use Rattle.dactl_model.specs.declared.graph.NodeId.{NodeId};
-    ghost use Rattle.dactl_steal.specs.Boards.{put_of, taken_of, back_of, kept_of, room_of, hands_of, HandFits, FoundNone};
+    ghost use Rattle.dactl_steal.specs.Boards.{put_of, taken_of, back_of, kept_of, room_of};
+    ghost use Rattle.dactl_steal.specs.Boards.{hands_of, HandFits, FoundNone};
 
     type Hand = StealHand;
 

@@ -1,12 +1,14 @@
 //! Counting what is left when a board is closed.
 
-ghost use Rattle.std.specs.Prelude.{◌≡◌, ℕ, ◌+◌, ◌-◌, ◌^◌, ◌<◌, ◌++◌, ◌∷◌, [], List, length, take, min, Option};
+ghost use Rattle.std.specs.Prelude.{◌≡◌, ℕ, ◌+◌, ◌-◌, ◌^◌, ◌<◌, ◌++◌, ◌∷◌, [], List, length, take};
+ghost use Rattle.std.specs.Prelude.{min, Option};
 ghost use mathlib.Core.Option.{some};
 ghost use lib.ListN.{get_elem?};
 ghost use Rattle.crossbeam_deque.specs.Handles.{worker_deque, worker_view, SameWorker};
 ghost use Rattle.dactl_model.specs.declared.graph.NodeId.{NodeId};
 ghost use Rattle.dactl_queue.specs.Accounts.{weigh};
-ghost use Rattle.dactl_steal.specs.Closing.{EndsWith, RowsFit, having_back, all_stolen, AllBack, slot_in, slot_out};
+ghost use Rattle.dactl_steal.specs.Closing.{EndsWith, RowsFit, having_back, all_stolen, AllBack};
+ghost use Rattle.dactl_steal.specs.Closing.{slot_in, slot_out};
 ghost use Rattle.dactl_steal.specs.Sums.{added};
 ghost use Rattle.dactl_steal.specs.Others.{DequeId};
 ghost use Rattle.dactl_steal.specs.Owns.{account_of, weight_in, weight_out};

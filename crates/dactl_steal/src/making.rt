@@ -1,6 +1,7 @@
 //! Making the hands of a board.
 
-ghost use Rattle.std.specs.Prelude.{◌≡◌, ℕ, ◌+◌, ◌-◌, ◌<◌, ◌≤◌, [], List, map, length, vec_len, All, IfOk, None};
+ghost use Rattle.std.specs.Prelude.{◌≡◌, ℕ, ◌+◌, ◌-◌, ◌<◌, ◌≤◌, [], List, map, length, vec_len};
+ghost use Rattle.std.specs.Prelude.{All, IfOk, None};
 ghost use Rattle.crossbeam_deque.specs.Handles.{stealer_deque, worker_deque};
 ghost use Rattle.crossbeam_queue.specs.Passes.{view, IsPassOf};
 ghost use Rattle.dactl_steal.specs.Making.{IsNewOwn, IsSeated, AreSeated, own_deque};

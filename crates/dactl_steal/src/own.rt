@@ -12,10 +12,12 @@ pub(crate) struct Own {
 }
 
 impl Own {
-    ghost use Rattle.std.specs.Prelude.{◌≡◌, ℕ, ◌+◌, ◌<◌, ◌≤◌, List, [], length, MatchResult, MatchOption, OnErr, IfNone};
+    ghost use Rattle.std.specs.Prelude.{◌≡◌, ℕ, ◌+◌, ◌<◌, ◌≤◌, List, [], length, MatchResult};
+    ghost use Rattle.std.specs.Prelude.{MatchOption, OnErr, IfNone};
     ghost use Rattle.dactl_model.specs.declared.graph.NodeId.{NodeId};
     ghost use Rattle.dactl_steal.specs.Deques.{WasEmpty};
-    ghost use Rattle.dactl_steal.specs.Owns.{account_of, reserve_of, room_of, weight_in, weight_out, IsUsable, SameOwn};
+    ghost use Rattle.dactl_steal.specs.Owns.{account_of, reserve_of, room_of, weight_in};
+    ghost use Rattle.dactl_steal.specs.Owns.{weight_out, IsUsable, SameOwn};
 
     /// Puts a node at the back of the deque, or of the reserve where the deque cannot grow. Hands
     /// it back where there the reserve is full.

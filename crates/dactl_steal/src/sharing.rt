@@ -3,7 +3,8 @@
 ghost use Rattle.std.specs.Prelude.{◌≡◌, ℕ, ◌+◌, ◌<◌, ◌≤◌, [], List, map, length, IfOk};
 ghost use Rattle.crossbeam_deque.specs.Handles.{worker_deque};
 ghost use Rattle.dactl_model.specs.declared.graph.NodeId.{NodeId};
-ghost use Rattle.dactl_steal.specs.Making.{IsNewOwn, CanLend, AreLenders, HaveLent, AreUnshared, AreShared, own_deque};
+ghost use Rattle.dactl_steal.specs.Making.{IsNewOwn, CanLend, AreLenders, HaveLent, AreUnshared};
+ghost use Rattle.dactl_steal.specs.Making.{AreShared, own_deque};
 ghost use Rattle.dactl_steal.specs.Others.{IsUsable, OthersFit, deque_of, trail_of, stolen};
 
 use crate::board::{Memory, StealHand};

@@ -2,7 +2,8 @@
 
 ghost use Rattle.std.specs.Prelude.{◌≡◌, ℕ, ◌+◌, List, MatchOption, length};
 ghost use Rattle.dactl_model.specs.declared.graph.NodeId.{NodeId};
-ghost use Rattle.dactl_steal.specs.Others.{IsUsableSlot, AreUsable, SlotKept, AreKept, SlotWasEmpty, WereEmpty, slot_stolen, stolen};
+ghost use Rattle.dactl_steal.specs.Others.{IsUsableSlot, AreUsable, SlotKept, AreKept};
+ghost use Rattle.dactl_steal.specs.Others.{SlotWasEmpty, WereEmpty, slot_stolen, stolen};
 
 use crate::other::{Other, rob};
 use dactl_model::graph::NodeId;

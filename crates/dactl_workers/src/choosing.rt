@@ -3,7 +3,8 @@
 ghost use Rattle.std.specs.Prelude.{◌≡◌, ◌+◌, ◌∷◌, [], ◌++◌, IfSome, MatchBool, MatchOption};
 ghost use Rattle.dactl_shared.specs.Stores.{seen_of, program_of, SameCounts, MayRead};
 ghost use Rattle.dactl_shared.specs.Endings.{HasSeenEnd};
-ghost use Rattle.dactl_workers.specs.Turns.{IsSeated, IsCounted, HasLooked, HasGone, IsChosen, IsActiveAfter, TriesTaken};
+ghost use Rattle.dactl_workers.specs.Turns.{IsSeated, IsCounted, HasLooked, HasGone, IsChosen};
+ghost use Rattle.dactl_workers.specs.Turns.{IsActiveAfter, TriesTaken};
 
 use crate::knowing::known_with;
 use crate::worker::Worker;

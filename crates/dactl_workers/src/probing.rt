@@ -6,10 +6,12 @@ ghost use Rattle.dactl_model.specs.Readings.{targets_of};
 ghost use Rattle.dactl_model.specs.RuleTold.{Shows};
 ghost use Rattle.dactl_shared.specs.Counts.{entry_by, stale_by, passive_by};
 ghost use Rattle.dactl_shared.specs.Endings.{HasSeenEnd, TellsEnd};
-ghost use Rattle.dactl_shared.specs.Stores.{WorksFor, seen_of, mine_of, program_of, limits_of, SameCounts, MayRead, WasShown, Looks, TakesStep};
+ghost use Rattle.dactl_shared.specs.Stores.{WorksFor, seen_of, mine_of, program_of, limits_of};
+ghost use Rattle.dactl_shared.specs.Stores.{SameCounts, MayRead, WasShown, Looks, TakesStep};
 ghost use Rattle.dactl_turn.specs.Gives.{listed};
 ghost use Rattle.dactl_store.specs.Held.{IsReadingOf};
-ghost use Rattle.dactl_workers.specs.Turns.{IsSeated, HasFootprint, MayReadBelow, HasLooked, IsReadSince, Tells};
+ghost use Rattle.dactl_workers.specs.Turns.{IsSeated, HasFootprint, MayReadBelow, HasLooked};
+ghost use Rattle.dactl_workers.specs.Turns.{IsReadSince, Tells};
 
 use crate::gate::Gate;
 use crate::knowing::known_with_targets;
