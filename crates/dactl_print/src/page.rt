@@ -30,6 +30,11 @@ impl Model for Page {
 }
 
 impl Page {
+    /// A page on which nothing is gathered.
+    ///
+    /// # Errors
+    ///
+    /// `Memory` where there is not the memory for 65,536 bytes.
     pub fn new(alloc: Global) -> Result<Page, Memory>
         ensures { IfOk result (λ page. page ≡ []) }
     {
@@ -52,8 +57,14 @@ impl Page {
     }
 
     /// Hands on what is gathered. Nothing is gathered afterwards, also where the sink failed.
+    ///
+    /// # Errors
+    ///
+    /// `Failed` where the sink fails. It may have taken a front of what was gathered; the rest is
+    /// lost.
     pub fn hand_on<K: Sink>(&mut self, sink: &mut K) -> Result<(), Failed>
-        ensures prints { Prints (K.holds sink.old) (K.holds sink.new) (K.faults sink.old) (K.faults sink.new) self.old self.new result [] }
+        ensures prints { Prints (K.holds sink.old) (K.holds sink.new)
+            (K.faults sink.old) (K.faults sink.new) self.old self.new result [] }
         ensures empty { self.new ≡ [] }
     {
         let handed = write_all(sink, &self.bytes[..self.len]);
@@ -64,15 +75,22 @@ impl Page {
     // Hands on a page that is full.
     fn hand_on_full<K: Sink>(&mut self, sink: &mut K) -> Result<(), Failed>
         requires full { length self.old ≡ 65536 }
-        ensures prints { Prints (K.holds sink.old) (K.holds sink.new) (K.faults sink.old) (K.faults sink.new) self.old self.new result [] }
+        ensures prints { Prints (K.holds sink.old) (K.holds sink.new)
+            (K.faults sink.old) (K.faults sink.new) self.old self.new result [] }
         ensures empty { self.new ≡ [] }
     {
         self.hand_on(sink)
     }
 
     /// Gathers the bytes, and hands on each full page.
+    ///
+    /// # Errors
+    ///
+    /// `Failed` where the sink fails. It may have taken a front of what was gathered and of these
+    /// bytes; nothing is gathered then.
     pub fn gather<K: Sink>(&mut self, sink: &mut K, bytes: &[u8]) -> Result<(), Failed>
-        ensures { Prints (K.holds sink.old) (K.holds sink.new) (K.faults sink.old) (K.faults sink.new) self.old self.new result bytes.now }
+        ensures { Prints (K.holds sink.old) (K.holds sink.new)
+            (K.faults sink.old) (K.faults sink.new) self.old self.new result bytes.now }
     {
         let mut rest = bytes;
         loop {
@@ -86,16 +104,28 @@ impl Page {
     }
 
     /// Gathers the number in decimal.
+    ///
+    /// # Errors
+    ///
+    /// `Failed` where the sink fails. It may have taken a front of what was gathered and of its
+    /// digits; nothing is gathered then.
     pub fn gather_number<K: Sink>(&mut self, sink: &mut K, n: u64) -> Result<(), Failed>
-        ensures { Prints (K.holds sink.old) (K.holds sink.new) (K.faults sink.old) (K.faults sink.new) self.old self.new result (decimal n) }
+        ensures { Prints (K.holds sink.old) (K.holds sink.new)
+            (K.faults sink.old) (K.faults sink.new) self.old self.new result (decimal n) }
     {
         let mut digits = Digits::new();
         self.gather(sink, digits.text(n as i128))
     }
 
     /// Gathers the integer in decimal, with `-` before it where it is below 0.
+    ///
+    /// # Errors
+    ///
+    /// `Failed` where the sink fails. It may have taken a front of what was gathered and of its
+    /// text; nothing is gathered then.
     pub fn gather_integer<K: Sink>(&mut self, sink: &mut K, n: i128) -> Result<(), Failed>
-        ensures { Prints (K.holds sink.old) (K.holds sink.new) (K.faults sink.old) (K.faults sink.new) self.old self.new result (signed_decimal n) }
+        ensures { Prints (K.holds sink.old) (K.holds sink.new)
+            (K.faults sink.old) (K.faults sink.new) self.old self.new result (signed_decimal n) }
     {
         let mut digits = Digits::new();
         self.gather(sink, digits.text(n))

@@ -37,7 +37,11 @@ impl Model for Numbering {
 }
 
 impl Numbering {
-    /// Room for graphs of so many nodes.
+    /// Room for graphs of so many nodes. Nothing is gathered.
+    ///
+    /// # Errors
+    ///
+    /// `Memory` where there is not the memory for the numbers or for the bytes.
     pub fn with_room(alloc: Global, nodes: u32) -> Result<Numbering, Memory>
         ensures { IfOk result (λ n. n ≡ record { room = nodes; gathered = [] }) }
     {
@@ -49,25 +53,39 @@ impl Numbering {
 }
 
 /// Prints how the run ended and the number of its entries.
+///
+/// # Errors
+///
+/// `Failed` where the sink fails while a full page is handed on. The sink may have taken a front of
+/// what was gathered and of the line; nothing is gathered then.
 pub fn show_end<K: Sink>(
     end: &End,
     entries: u32,
     numbering: &mut Numbering,
     sink: &mut K,
 ) -> Result<(), Failed>
-    ensures prints { Prints (K.holds sink.old) (K.holds sink.new) (K.faults sink.old) (K.faults sink.new) numbering.old.gathered numbering.new.gathered result (end_line end.now entries) }
+    ensures prints { Prints (K.holds sink.old) (K.holds sink.new)
+        (K.faults sink.old) (K.faults sink.new)
+        numbering.old.gathered numbering.new.gathered result (end_line end.now entries) }
     ensures room { numbering.new.room ≡ numbering.old.room }
 {
     gather_end(end, entries, &mut numbering.page, sink)
 }
 
 /// Prints a line for each entry of the journal, numbered from 1.
+///
+/// # Errors
+///
+/// `Failed` where the sink fails while a full page is handed on. The sink may have taken a front of
+/// what was gathered and of the lines; nothing is gathered then.
 pub fn show_trace<K: Sink>(
     journal: &[Entry],
     numbering: &mut Numbering,
     sink: &mut K,
 ) -> Result<(), Failed>
-    ensures prints { Prints (K.holds sink.old) (K.holds sink.new) (K.faults sink.old) (K.faults sink.new) numbering.old.gathered numbering.new.gathered result (trace_lines journal.now) }
+    ensures prints { Prints (K.holds sink.old) (K.holds sink.new)
+        (K.faults sink.old) (K.faults sink.new)
+        numbering.old.gathered numbering.new.gathered result (trace_lines journal.now) }
     ensures room { numbering.new.room ≡ numbering.old.room }
 {
     gather_trace(journal, &mut numbering.page, sink)
@@ -75,6 +93,11 @@ pub fn show_trace<K: Sink>(
 
 /// Prints a line for each node that can be reached from the root, numbered from 1 in the order of
 /// a visit depth first.
+///
+/// # Errors
+///
+/// `Failed` where the sink fails while a full page is handed on. The sink may have taken a front of
+/// what was gathered and of the lines; nothing is gathered then.
 pub fn show<V: View, K: Sink>(
     view: &V,
     program: &Program,
@@ -84,7 +107,10 @@ pub fn show<V: View, K: Sink>(
     requires formed { IsWellFormed (V.graph view.now) }
     requires room { length (V.graph view.now).nodes ≤ numbering.old.room }
     requires symbols { HasSymbolsOf program.now (V.graph view.now) }
-    ensures prints { (text : List ℕ) × IsGraphText program.now (V.graph view.now) text × Prints (K.holds sink.old) (K.holds sink.new) (K.faults sink.old) (K.faults sink.new) numbering.old.gathered numbering.new.gathered result text }
+    ensures prints { (text : List ℕ)
+        × IsGraphText program.now (V.graph view.now) text
+        × Prints (K.holds sink.old) (K.holds sink.new) (K.faults sink.old) (K.faults sink.new)
+        numbering.old.gathered numbering.new.gathered result text }
     ensures room { numbering.new.room ≡ numbering.old.room }
 {
     numbering.walk.visit(view);
@@ -92,8 +118,14 @@ pub fn show<V: View, K: Sink>(
 }
 
 /// Hands on what is gathered. Nothing is gathered afterwards, also where the sink failed.
+///
+/// # Errors
+///
+/// `Failed` where the sink fails. It may have taken a front of what was gathered; the rest is lost.
 pub fn flush<K: Sink>(numbering: &mut Numbering, sink: &mut K) -> Result<(), Failed>
-    ensures prints { Prints (K.holds sink.old) (K.holds sink.new) (K.faults sink.old) (K.faults sink.new) numbering.old.gathered numbering.new.gathered result [] }
+    ensures prints { Prints (K.holds sink.old) (K.holds sink.new)
+        (K.faults sink.old) (K.faults sink.new)
+        numbering.old.gathered numbering.new.gathered result [] }
     ensures empty { numbering.new.gathered ≡ [] }
     ensures room { numbering.new.room ≡ numbering.old.room }
 {

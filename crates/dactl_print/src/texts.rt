@@ -20,13 +20,19 @@ fn word_of(end: &End) -> &'static [u8]
 }
 
 /// Gathers the end line.
+///
+/// # Errors
+///
+/// `Failed` where the sink fails. It may have taken a front of what was gathered and of the line;
+/// nothing is gathered then.
 pub fn gather_end<K: Sink>(
     end: &End,
     entries: u32,
     page: &mut Page,
     sink: &mut K,
 ) -> Result<(), Failed>
-    ensures { Prints (K.holds sink.old) (K.holds sink.new) (K.faults sink.old) (K.faults sink.new) page.old page.new result (end_line end.now entries) }
+    ensures { Prints (K.holds sink.old) (K.holds sink.new) (K.faults sink.old) (K.faults sink.new)
+        page.old page.new result (end_line end.now entries) }
 {
     page.gather(sink, word_of(end))?;
     page.gather_number(sink, entries as u64)?;
@@ -34,7 +40,8 @@ pub fn gather_end<K: Sink>(
 }
 
 fn gather_event<K: Sink>(event: Event, page: &mut Page, sink: &mut K) -> Result<(), Failed>
-    ensures { Prints (K.holds sink.old) (K.holds sink.new) (K.faults sink.old) (K.faults sink.new) page.old page.new result (event_text event) }
+    ensures { Prints (K.holds sink.old) (K.holds sink.new) (K.faults sink.old) (K.faults sink.new)
+        page.old page.new result (event_text event) }
 {
     match event {
         Event::Fire { node, rule } => {
@@ -56,7 +63,8 @@ fn gather_entry<K: Sink>(
     page: &mut Page,
     sink: &mut K,
 ) -> Result<(), Failed>
-    ensures { Prints (K.holds sink.old) (K.holds sink.new) (K.faults sink.old) (K.faults sink.new) page.old page.new result (entry_line number entry) }
+    ensures { Prints (K.holds sink.old) (K.holds sink.new) (K.faults sink.old) (K.faults sink.new)
+        page.old page.new result (entry_line number entry) }
 {
     page.gather_number(sink, number)?;
     page.gather(sink, b" w")?;
@@ -65,9 +73,15 @@ fn gather_entry<K: Sink>(
     page.gather(sink, b"\n")
 }
 
-/// Gathers a line for each entry.
+/// Gathers a line for each entry, numbered from 1.
+///
+/// # Errors
+///
+/// `Failed` where the sink fails. It may have taken a front of what was gathered and of the lines;
+/// nothing is gathered then.
 pub fn gather_trace<K: Sink>(journal: &[Entry], page: &mut Page, sink: &mut K) -> Result<(), Failed>
-    ensures { Prints (K.holds sink.old) (K.holds sink.new) (K.faults sink.old) (K.faults sink.new) page.old page.new result (trace_lines journal.now) }
+    ensures { Prints (K.holds sink.old) (K.holds sink.new) (K.faults sink.old) (K.faults sink.new)
+        page.old page.new result (trace_lines journal.now) }
 {
     let mut number = 1u64;
     for entry in journal {

@@ -1,6 +1,8 @@
 //! The visit of the nodes below the root, and the numbers that it gives them.
 
-ghost use Rattle.std.specs.Prelude.{◌≡◌, ℕ, ◌+◌, ◌<◌, ◌≤◌, ◌^◌, ◌++◌, ◌∷◌, List, [], length, vec_len, vec_capacity, slice_get, slice_index, slice_set, IfOk, IfSome};
+ghost use Rattle.std.specs.Prelude.{◌≡◌, ℕ, ◌+◌, ◌<◌, ◌≤◌, ◌^◌, ◌++◌, ◌∷◌, List};
+ghost use Rattle.std.specs.Prelude.{[], length, vec_len, vec_capacity, slice_get};
+ghost use Rattle.std.specs.Prelude.{slice_index, slice_set, IfOk, IfSome};
 ghost use Rattle.dactl_model.specs.Graphs.{HasNode, IsSmall, IsWellFormed};
 ghost use Rattle.dactl_print.specs.Order.{IsOrder, number_in, targets};
 ghost use Rattle.dactl_print.specs.Walks.{Visited, HasNumbers, AreNodesOf, AreBelow};
@@ -135,7 +137,11 @@ fn visit_all<V: View>(view: &V, numbers: &mut [u32], order: &mut Vec<NodeId>, pa
 }
 
 impl Walk {
-    /// Room for graphs of so many nodes.
+    /// Room for graphs of so many nodes. None is visited yet.
+    ///
+    /// # Errors
+    ///
+    /// `Memory` where there is not the memory.
     pub fn with_room(alloc: Global, nodes: u32) -> Result<Walk, Memory>
         ensures { IfOk result (λ walk. walk ≡ record { room = nodes; order = [] }) }
     {

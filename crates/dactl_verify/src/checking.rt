@@ -1,5 +1,6 @@
 //! The check of a trace, line by line.
-ghost use Rattle.std.specs.Prelude.{◌≡◌, ◌<◌, ◌≤◌, ◌^◌, ◌↔◌, ◌++◌, ◌⊎◌, ℕ, [], IfOk, IfErr, IfSome, IfNone, IsTrue, None, length};
+ghost use Rattle.std.specs.Prelude.{◌≡◌, ◌<◌, ◌≤◌, ◌^◌, ◌↔◌, ◌++◌, ◌⊎◌, ℕ, [], IfOk};
+ghost use Rattle.std.specs.Prelude.{IfErr, IfSome, IfNone, IsTrue, None, length};
 ghost use Rattle.dactl_model.specs.declared.graph.Event.TheVariants.{Fire, Note};
 ghost use Rattle.dactl_model.specs.Ending.{room_left};
 ghost use Rattle.dactl_model.specs.Graphs.{HasNode, IsWellFormed};
@@ -76,8 +77,10 @@ fn allowed_match(
 ) -> Result<Option<Vec<NodeId>>, Memory>
     requires program { IsValid program.now }
     requires graph { IsWellFormed graph.now }
-    ensures found { IfOk result (λ found. IfSome found (λ h. MayHappen program.now graph.now h.items (Fire node rule))) }
-    ensures none { IfOk result (λ found. IfNone found (IsStepped program.now graph.now (Fire node rule) None)) }
+    ensures found { IfOk result (λ found.
+        IfSome found (λ h. MayHappen program.now graph.now h.items (Fire node rule))) }
+    ensures none { IfOk result (λ found.
+        IfNone found (IsStepped program.now graph.now (Fire node rule) None)) }
 {
     if !has_node(graph, node) || rule as usize >= program.rules.len() {
         return Ok(None);

@@ -1,5 +1,6 @@
 //! One line of a trace, and the entry that it tells.
-ghost use Rattle.std.specs.Prelude.{◌≡◌, ◌≢◌, ◌↔◌, ◌++◌, ◌^◌, ◌<◌, ◌≤◌, ◌==◌, ℕ, List, IsTrue, MatchOption, codes, length, not, true};
+ghost use Rattle.std.specs.Prelude.{◌≡◌, ◌≢◌, ◌↔◌, ◌++◌, ◌^◌, ◌<◌, ◌≤◌, ◌==◌, ℕ, List};
+ghost use Rattle.std.specs.Prelude.{IsTrue, MatchOption, codes, length, not, true};
 ghost use Rattle.std.specs.Char.{is_ascii_digit};
 ghost use Rattle.std.specs.Fmt.{decimal};
 ghost use Rattle.std.specs.List.{prefix_len};
@@ -9,13 +10,16 @@ ghost use Rattle.dactl_model.specs.declared.graph.Event.{Event};
 ghost use Rattle.dactl_model.specs.declared.graph.Event.TheVariants.{Fire, Note};
 ghost use Rattle.dactl_model.specs.declared.graph.Entry.{Entry};
 ghost use Rattle.dactl_print.specs.Texts.{event_text, line_feed};
-ghost use Rattle.dactl_verify.specs.Lines.{IsWorker, IsLineOf, BeginsNoNumber, BeginsWith, HasWords, next_line};
+ghost use Rattle.dactl_verify.specs.Lines.{IsWorker, IsLineOf, BeginsNoNumber};
+ghost use Rattle.dactl_verify.specs.Lines.{BeginsWith, HasWords, next_line};
 
 use dactl_model::graph::{Entry, Event, NodeId};
 
 // What follows the prefix.
 fn strip<'a>(bytes: &'a [u8], prefix: &[u8]) -> Option<&'a [u8]>
-    ensures { MatchOption result ((rest : List ℕ) → bytes.now ≢ prefix.now ++ rest) (λ rest. bytes.now ≡ prefix.now ++ rest.now) }
+    ensures { MatchOption result
+        ((rest : List ℕ) → bytes.now ≢ prefix.now ++ rest)
+        (λ rest. bytes.now ≡ prefix.now ++ rest.now) }
 {
     bytes.strip_prefix(prefix)
 }
@@ -41,7 +45,9 @@ fn split_digits(bytes: &[u8]) -> (&[u8], &[u8])
 // The number that the digits write, if it has 32 bits and no zero before it.
 fn value_of(digits: &[u8]) -> Option<u32>
     requires { all_ascii_digits digits.now ≡ true }
-    ensures { MatchOption result ((number : ℕ) → number < 2 ^ 32 → digits.now ≢ decimal number) (λ number. (number < 2 ^ 32) × (digits.now ≡ decimal number)) }
+    ensures { MatchOption result
+        ((number : ℕ) → number < 2 ^ 32 → digits.now ≢ decimal number)
+        (λ number. (number < 2 ^ 32) × (digits.now ≡ decimal number)) }
 {
     if digits.len() > 1 && digits[0] == b'0' {
         return None;
@@ -54,7 +60,9 @@ fn value_of(digits: &[u8]) -> Option<u32>
 
 // The number behind the prefix, and what follows it.
 fn read_number<'a>(prefix: &[u8], bytes: &'a [u8]) -> Option<(u32, &'a [u8])>
-    ensures { MatchOption result ((number : ℕ) (rest : List ℕ) → BeginsWith prefix.now bytes.now number rest → ⊥) (λ found. BeginsWith prefix.now bytes.now found.0 found.1.now) }
+    ensures { MatchOption result
+        ((number : ℕ) (rest : List ℕ) → BeginsWith prefix.now bytes.now number rest → ⊥)
+        (λ found. BeginsWith prefix.now bytes.now found.0 found.1.now) }
 {
     let behind = strip(bytes, prefix)?;
     let (digits, rest) = split_digits(behind);
@@ -70,7 +78,10 @@ fn is_end(bytes: &[u8]) -> bool
 
 // The firing that the rest of a line tells.
 fn read_fire(text: &[u8]) -> Option<Event>
-    ensures { MatchOption result ((node : NodeId) (rule : ℕ) → HasWords (Fire node rule) → text.now ≢ event_text (Fire node rule) ++ line_feed) (λ event. HasWords event × (text.now ≡ event_text event ++ line_feed)) }
+    ensures { MatchOption result
+        ((node : NodeId) (rule : ℕ) → HasWords (Fire node rule)
+        → text.now ≢ event_text (Fire node rule) ++ line_feed)
+        (λ event. HasWords event × (text.now ≡ event_text event ++ line_feed)) }
 {
     let (node, rest) = read_number(b" fire ", text)?;
     let (rule, end) = read_number(b" ", rest)?;
@@ -85,7 +96,9 @@ fn read_fire(text: &[u8]) -> Option<Event>
 
 // The notification that the rest of a line tells.
 fn read_note(text: &[u8]) -> Option<Event>
-    ensures { MatchOption result ((node : NodeId) → HasWords (Note node) → text.now ≢ event_text (Note node) ++ line_feed) (λ event. HasWords event × (text.now ≡ event_text event ++ line_feed)) }
+    ensures { MatchOption result
+        ((node : NodeId) → HasWords (Note node) → text.now ≢ event_text (Note node) ++ line_feed)
+        (λ event. HasWords event × (text.now ≡ event_text event ++ line_feed)) }
 {
     let (node, end) = read_number(b" note ", text)?;
     if !is_end(end) {
@@ -98,7 +111,9 @@ fn read_note(text: &[u8]) -> Option<Event>
 
 // The event that the rest of a line tells.
 fn read_event(text: &[u8]) -> Option<Event>
-    ensures { MatchOption result ((event : Event) → HasWords event → text.now ≢ event_text event ++ line_feed) (λ event. HasWords event × (text.now ≡ event_text event ++ line_feed)) }
+    ensures { MatchOption result
+        ((event : Event) → HasWords event → text.now ≢ event_text event ++ line_feed)
+        (λ event. HasWords event × (text.now ≡ event_text event ++ line_feed)) }
 {
     match read_fire(text) {
         Some(event) => Some(event),
@@ -108,7 +123,10 @@ fn read_event(text: &[u8]) -> Option<Event>
 
 // The worker that the rest of a line tells, and what follows it.
 fn read_worker(text: &[u8]) -> Option<(u8, &[u8])>
-    ensures { MatchOption result ((worker : ℕ) (rest : List ℕ) → IsWorker worker → BeginsWith (codes " w") text.now worker rest → ⊥) (λ found. IsWorker found.0 × BeginsWith (codes " w") text.now found.0 found.1.now) }
+    ensures { MatchOption result
+        ((worker : ℕ) (rest : List ℕ) → IsWorker worker
+        → BeginsWith (codes " w") text.now worker rest → ⊥)
+        (λ found. IsWorker found.0 × BeginsWith (codes " w") text.now found.0 found.1.now) }
 {
     let (worker, rest) = read_number(b" w", text)?;
     if worker < 1 || 16 < worker {
@@ -120,7 +138,9 @@ fn read_worker(text: &[u8]) -> Option<(u8, &[u8])>
 /// The entry that the line tells, if it is the line of an entry with this number and a worker from
 /// 1 to 16.
 pub fn read_line(line: &[u8], number: u32) -> Option<Entry>
-    ensures { MatchOption result ((entry : Entry) → HasWords entry.event → IsLineOf number entry line.now → ⊥) (λ entry. HasWords entry.event × IsLineOf number entry line.now) }
+    ensures { MatchOption result
+        ((entry : Entry) → HasWords entry.event → IsLineOf number entry line.now → ⊥)
+        (λ entry. HasWords entry.event × IsLineOf number entry line.now) }
 {
     let (own, behind) = read_number(b"", line)?;
     if own != number {

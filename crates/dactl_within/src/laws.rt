@@ -1,5 +1,9 @@
 //! Laws about the definitions alone: each function's contract is its law, and its body is empty.
-ghost use Rattle.dactl_within.specs.Statements.{StepIsRenumbered, StepComesBack, EventIsInside, StaysIdleBeside, SameStays, SameComesBack, RunIsRenumbered, RunComesBack, EndsAlike, SameRuns, SameRunsBack, PartOfPart, StepsByRules, RunsByRules};
+ghost use Rattle.dactl_within.specs.Statements.{StepIsRenumbered, StepComesBack};
+ghost use Rattle.dactl_within.specs.Statements.{EventIsInside, StaysIdleBeside, SameStays};
+ghost use Rattle.dactl_within.specs.Statements.{SameComesBack, RunIsRenumbered, RunComesBack};
+ghost use Rattle.dactl_within.specs.Statements.{EndsAlike, SameRuns, SameRunsBack};
+ghost use Rattle.dactl_within.specs.Statements.{PartOfPart, StepsByRules, RunsByRules};
 
 /// A step of a part is a step of the whole, up to numbers.
 pub fn step_is_renumbered()
