@@ -1,8 +1,10 @@
 //! The arguments of a line.
-ghost use Rattle.std.specs.Prelude.{◌≡◌, ◌≢◌, ◌↔◌, ◌∷◌, ◌++◌, ◌<◌, ◌≤◌, ℕ, List, length, cond, codes, false, [], ◌+◌, IfOk, IsTrue, MatchBool, MatchOption};
+ghost use Rattle.std.specs.Prelude.{◌≡◌, ◌≢◌, ◌↔◌, ◌∷◌, ◌++◌, ◌<◌, ◌≤◌, ℕ, List, length, cond};
+ghost use Rattle.std.specs.Prelude.{codes, false, [], ◌+◌, IfOk, IsTrue, MatchBool, MatchOption};
 ghost use Rattle.dactl_model.specs.declared.graph.Arc.{Arc as TheArc};
 ghost use Rattle.dactl_print.specs.Texts.{line_feed};
-ghost use Rattle.dactl_resume.specs.Parts.{BeginsArgument, AreTargets, IsFurther, AreArguments, Appended};
+ghost use Rattle.dactl_resume.specs.Parts.{BeginsArgument, AreTargets};
+ghost use Rattle.dactl_resume.specs.Parts.{IsFurther, AreArguments, Appended};
 
 use crate::numbers::{read_number, strip};
 use dactl_model::Memory;
@@ -26,7 +28,9 @@ fn split_flag(bytes: &[u8]) -> (bool, &[u8])
 
 // The argument behind the lead, and what follows it.
 fn read_argument<'a>(lead: &[u8], bytes: &'a [u8], count: u32) -> Option<(Arc, &'a [u8])>
-    ensures { MatchOption result ((arc : TheArc) (rest : List ℕ) → BeginsArgument lead.now bytes.now count arc rest → ⊥) (λ found. BeginsArgument lead.now bytes.now count found.0 found.1.now) }
+    ensures { MatchOption result
+        ((arc : TheArc) (rest : List ℕ) → BeginsArgument lead.now bytes.now count arc rest → ⊥)
+        (λ found. BeginsArgument lead.now bytes.now count found.0 found.1.now) }
 {
     let behind = strip(bytes, lead)?;
     let (waits, at) = split_flag(behind);
@@ -55,7 +59,10 @@ fn is_close(bytes: &[u8]) -> bool
 fn read_further(arcs: &mut Vec<Arc>, bytes: &[u8], count: u32) -> Result<bool, Memory>
     requires few { length arcs.old.items ≤ 16 }
     requires targets { AreTargets count arcs.old.items }
-    ensures { IfOk result (λ good. MatchBool good (Appended arcs.old.items arcs.new.items bytes.now count) ((more : List TheArc) → IsFurther bytes.now more → AreTargets count more → length arcs.old.items + length more ≤ 16 → ⊥)) }
+    ensures { IfOk result (λ good. MatchBool good
+        (Appended arcs.old.items arcs.new.items bytes.now count)
+        ((more : List TheArc) → IsFurther bytes.now more → AreTargets count more
+        → length arcs.old.items + length more ≤ 16 → ⊥)) }
 {
     let mut rest = bytes;
     'arguments: while !is_close(rest) {
@@ -72,9 +79,15 @@ fn read_further(arcs: &mut Vec<Arc>, bytes: &[u8], count: u32) -> Result<bool, M
 }
 
 /// The arguments that the bytes are, in brackets, with the LF behind them: none, or up to 16, of
-/// which each leads to one of `count` nodes.
+/// which each leads to one of `count` nodes. None where they are no such arguments.
+///
+/// # Errors
+///
+/// `Memory` where the list of arguments cannot grow.
 pub fn read_arguments(alloc: Global, bytes: &[u8], count: u32) -> Result<Option<Items<Arc>>, Memory>
-    ensures { IfOk result (λ found. MatchOption found ((arcs : List TheArc) → AreArguments bytes.now count arcs → ⊥) (λ arcs. AreArguments bytes.now count arcs)) }
+    ensures { IfOk result (λ found. MatchOption found
+        ((arcs : List TheArc) → AreArguments bytes.now count arcs → ⊥)
+        (λ arcs. AreArguments bytes.now count arcs)) }
 {
     let mut arcs = Vec::new(alloc);
     if is_end(bytes) {

@@ -1,5 +1,6 @@
 //! Marks and labels.
-ghost use Rattle.std.specs.Prelude.{◌≡◌, ◌≢◌, ◌↔◌, ◌||◌, ◌∷◌, ◌++◌, ℕ, ℤ, List, length, replicate, MatchOption, IsTrue, true};
+ghost use Rattle.std.specs.Prelude.{◌≡◌, ◌≢◌, ◌↔◌, ◌||◌, ◌∷◌, ◌++◌, ℕ, ℤ, List};
+ghost use Rattle.std.specs.Prelude.{length, replicate, MatchOption, IsTrue, true};
 ghost use Rattle.std.specs.List.{list_all, prefix_len};
 ghost use Rattle.std.specs.Fmt.{signed_decimal};
 ghost use Rattle.dactl_model.specs.declared.graph.Label.{Label as TheLabel};
@@ -12,7 +13,8 @@ ghost use Rattle.dactl_model.specs.Programs.{IsValid};
 ghost use Rattle.dactl_print.specs.Lines.{mark_text, label_text};
 ghost use Rattle.dactl_resume.specs.Found.{found_in, ArePlaces};
 ghost use Rattle.dactl_resume.specs.Parts as parts;
-ghost use Rattle.dactl_resume.specs.Parts.{names_of, Stops, IsFewMark, BeginsMark, IsLabelOf, IsWord, BeginsLabel};
+ghost use Rattle.dactl_resume.specs.Parts.{names_of, Stops, IsFewMark, BeginsMark};
+ghost use Rattle.dactl_resume.specs.Parts.{IsLabelOf, IsWord, BeginsLabel};
 
 use crate::names::Names;
 use crate::numbers::integer_of;
@@ -50,7 +52,9 @@ fn are_waits(signs: &[u8]) -> bool
 
 // The mark that the signs are.
 fn mark_of(signs: &[u8]) -> Option<Mark>
-    ensures { MatchOption result ((mark : TheMark) → IsFewMark mark → signs.now ≢ mark_text mark) (λ mark. IsFewMark mark × (signs.now ≡ mark_text mark)) }
+    ensures { MatchOption result
+        ((mark : TheMark) → IsFewMark mark → signs.now ≢ mark_text mark)
+        (λ mark. IsFewMark mark × (signs.now ≡ mark_text mark)) }
 {
     match signs {
         [] => Some(Mark::Idle),
@@ -66,7 +70,9 @@ fn mark_of(signs: &[u8]) -> Option<Mark>
 
 /// The mark that the bytes begin with, and what follows it: none, `*`, or up to 16 times `#`.
 pub fn read_mark(bytes: &[u8]) -> Option<(Mark, &[u8])>
-    ensures { MatchOption result ((mark : TheMark) (rest : List ℕ) → BeginsMark bytes.now mark rest → ⊥) (λ found. BeginsMark bytes.now found.0 found.1.now) }
+    ensures { MatchOption result
+        ((mark : TheMark) (rest : List ℕ) → BeginsMark bytes.now mark rest → ⊥)
+        (λ found. BeginsMark bytes.now found.0 found.1.now) }
 {
     let (signs, rest) = split_signs(bytes);
     let mark = mark_of(signs)?;
@@ -114,7 +120,9 @@ fn is_in_range(wide: bool, value: i128) -> bool
 
 // The integer of the program's language that the word is.
 fn integer_label(wide: bool, word: &[u8]) -> Option<Label>
-    ensures { MatchOption result ((z : ℤ) → InRange wide z → word.now ≢ signed_decimal z) (λ label. (z : ℤ) × (label ≡ Integer z) × InRange wide z × (word.now ≡ signed_decimal z)) }
+    ensures { MatchOption result
+        ((z : ℤ) → InRange wide z → word.now ≢ signed_decimal z)
+        (λ label. (z : ℤ) × (label ≡ Integer z) × InRange wide z × (word.now ≡ signed_decimal z)) }
 {
     let value = integer_of(word)?;
     if is_in_range(wide, value) {
@@ -127,7 +135,11 @@ fn integer_label(wide: bool, word: &[u8]) -> Option<Label>
 // The symbol or the integer that the word is.
 fn word_label(program: &Program, names: &Names, word: &[u8]) -> Option<Label>
     requires { ArePlaces (names_of program.now) (found_in names.now.places) }
-    ensures { MatchOption result ((label : TheLabel) → IsLabelOf program.now label → IsWord label → word.now ≢ label_text program.now label) (λ label. IsLabelOf program.now label × IsWord label × (word.now ≡ label_text program.now label)) }
+    ensures { MatchOption result
+        ((label : TheLabel) → IsLabelOf program.now label → IsWord label
+        → word.now ≢ label_text program.now label)
+        (λ label. IsLabelOf program.now label × IsWord label
+        × (word.now ≡ label_text program.now label)) }
 {
     match names.number(word) {
         Some(symbol) => Some(Label::Symbol(symbol)),
@@ -137,7 +149,9 @@ fn word_label(program: &Program, names: &Names, word: &[u8]) -> Option<Label>
 
 // The byte between the quotes that the bytes begin with, and what follows them.
 fn split_quoted(bytes: &[u8]) -> Option<(u8, &[u8])>
-    ensures { MatchOption result ((byte : ℕ) (rest : List ℕ) → bytes.now ≢ 39 ∷ byte ∷ 39 ∷ rest) (λ found. bytes.now ≡ 39 ∷ found.0 ∷ 39 ∷ found.1.now) }
+    ensures { MatchOption result
+        ((byte : ℕ) (rest : List ℕ) → bytes.now ≢ 39 ∷ byte ∷ 39 ∷ rest)
+        (λ found. bytes.now ≡ 39 ∷ found.0 ∷ 39 ∷ found.1.now) }
 {
     match bytes {
         [b'\'', byte, b'\'', rest @ ..] => Some((*byte, rest)),
@@ -160,7 +174,9 @@ pub fn read_label<'a>(
 ) -> Option<(Label, &'a [u8])>
     requires valid { IsValid program.now }
     requires names { ArePlaces (names_of program.now) (found_in names.now.places) }
-    ensures { MatchOption result ((label : TheLabel) (rest : List ℕ) → BeginsLabel program.now bytes.now label rest → ⊥) (λ found. BeginsLabel program.now bytes.now found.0 found.1.now) }
+    ensures { MatchOption result
+        ((label : TheLabel) (rest : List ℕ) → BeginsLabel program.now bytes.now label rest → ⊥)
+        (λ found. BeginsLabel program.now bytes.now found.0 found.1.now) }
 {
     if let Some((byte, rest)) = split_quoted(bytes) {
         if !is_character(program.wide, byte) || !ends_label(rest) {

@@ -1,5 +1,11 @@
 //! Laws about the definitions alone: each function's contract is its law, and its body is empty.
-ghost use Rattle.dactl_resume.specs.Statements.{TextIsKept, TextComesBack, RestrictionIsCanonical, CanonicalIsOwn, HasOneRestriction, RestrictionHasText, RestrictionIsIdleBeside, RestrictionIsSame, HasRestriction, TextHasOneGraph, ReadIsRestriction, HasOrder, RunGoesOn, RunCameFrom, RestrictionIsPrintable, PrintIsRead, IsNotBoth, HasOneGraph, HasOneBadLine, IsReadOrBad};
+ghost use Rattle.dactl_resume.specs.Statements.{TextIsKept, TextComesBack, RestrictionIsCanonical};
+ghost use Rattle.dactl_resume.specs.Statements.{CanonicalIsOwn, HasOneRestriction};
+ghost use Rattle.dactl_resume.specs.Statements.{RestrictionHasText, RestrictionIsIdleBeside};
+ghost use Rattle.dactl_resume.specs.Statements.{RestrictionIsSame, HasRestriction, TextHasOneGraph};
+ghost use Rattle.dactl_resume.specs.Statements.{ReadIsRestriction, HasOrder, RunGoesOn};
+ghost use Rattle.dactl_resume.specs.Statements.{RunCameFrom, RestrictionIsPrintable, PrintIsRead};
+ghost use Rattle.dactl_resume.specs.Statements.{IsNotBoth, HasOneGraph, HasOneBadLine, IsReadOrBad};
 ghost use Rattle.dactl_resume.specs.Example.{WakesBeside};
 
 /// A part and the whole have one text.

@@ -1,5 +1,6 @@
 //! One line of a printed graph, and its node.
-ghost use Rattle.std.specs.Prelude.{◌≡◌, ◌≢◌, ◌↔◌, ◌+◌, ◌∷◌, ◌++◌, ◌<◌, ◌^◌, ℕ, List, IfOk, IsTrue, MatchOption};
+ghost use Rattle.std.specs.Prelude.{◌≡◌, ◌≢◌, ◌↔◌, ◌+◌, ◌∷◌, ◌++◌, ◌<◌, ◌^◌};
+ghost use Rattle.std.specs.Prelude.{ℕ, List, IfOk, IsTrue, MatchOption};
 ghost use Rattle.std.specs.Fmt.{decimal};
 ghost use Rattle.dactl_model.specs.declared.graph.Node.{Node as TheNode};
 ghost use Rattle.dactl_model.specs.Graphs.{flags, FitsLabel, FitsMark};
@@ -20,7 +21,9 @@ use std::alloc::Global;
 // What follows the number of the line at this place, and a space.
 fn read_head(line: &[u8], place: u32) -> Option<&[u8]>
     requires { place + 1 < 2 ^ 32 }
-    ensures { MatchOption result ((rest : List ℕ) → line.now ≢ 64 ∷ (decimal (place + 1) ++ (32 ∷ rest))) (λ rest. line.now ≡ 64 ∷ (decimal (place + 1) ++ (32 ∷ rest.now))) }
+    ensures { MatchOption result
+        ((rest : List ℕ) → line.now ≢ 64 ∷ (decimal (place + 1) ++ (32 ∷ rest)))
+        (λ rest. line.now ≡ 64 ∷ (decimal (place + 1) ++ (32 ∷ rest.now))) }
 {
     let (number, behind) = read_number(b"@", line)?;
     if number != place + 1 {
@@ -55,7 +58,8 @@ fn fits_mark(mark: Mark, arcs: &[Arc]) -> bool
 }
 
 fn fits(node: &Node) -> bool
-    ensures { IsTrue result ↔ (FitsLabel node.now.label node.now.arcs × FitsMark node.now.mark node.now.arcs) }
+    ensures { IsTrue result
+        ↔ (FitsLabel node.now.label node.now.arcs × FitsMark node.now.mark node.now.arcs) }
 {
     let arcs = node.arcs.as_slice();
     fits_label(node.label, arcs) && fits_mark(node.mark, arcs)
@@ -71,7 +75,9 @@ fn read_content(
 ) -> Result<Option<Node>, Memory>
     requires valid { IsValid program.now }
     requires names { ArePlaces (names_of program.now) (found_in names.now.places) }
-    ensures { IfOk result (λ found. MatchOption found ((node : TheNode) → IsContentOf program.now count bytes.now node → ⊥) (λ node. IsContentOf program.now count bytes.now node)) }
+    ensures { IfOk result (λ found. MatchOption found
+        ((node : TheNode) → IsContentOf program.now count bytes.now node → ⊥)
+        (λ node. IsContentOf program.now count bytes.now node)) }
 {
     let Some((mark, behind)) = read_mark(bytes) else {
         return Ok(None);
@@ -92,7 +98,11 @@ fn read_content(
 
 /// The node whose line at this place, from 0, the bytes are, among `count` lines: with the next
 /// number, targets among the lines, at most 16 arguments, none behind an integer or a character, at
-/// most as many `#` as `^`, and a label of the program.
+/// most as many `#` as `^`, and a label of the program. None where they are no such line.
+///
+/// # Errors
+///
+/// `Memory` where there is not the memory for the node's arguments.
 pub fn read_line(
     alloc: Global,
     program: &Program,
@@ -104,7 +114,9 @@ pub fn read_line(
     requires valid { IsValid program.now }
     requires names { ArePlaces (names_of program.now) (found_in names.now.places) }
     requires place { place < count }
-    ensures { IfOk result (λ found. MatchOption found ((node : TheNode) → IsLineOf program.now count place line.now node → ⊥) (λ node. IsLineOf program.now count place line.now node)) }
+    ensures { IfOk result (λ found. MatchOption found
+        ((node : TheNode) → IsLineOf program.now count place line.now node → ⊥)
+        (λ node. IsLineOf program.now count place line.now node)) }
 {
     match read_head(line, place) {
         Some(bytes) => read_content(alloc, program, names, count, bytes),

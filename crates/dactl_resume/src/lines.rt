@@ -1,5 +1,6 @@
 //! The lines of a text.
-ghost use Rattle.std.specs.Prelude.{◌≡◌, ◌+◌, ◌++◌, ◌<◌, ◌≤◌, ◌==◌, ◌↔◌, ℕ, length, not, slice_get, IsTrue, MatchOption};
+ghost use Rattle.std.specs.Prelude.{◌≡◌, ◌+◌, ◌++◌, ◌<◌, ◌≤◌, ◌==◌, ◌↔◌, ℕ};
+ghost use Rattle.std.specs.Prelude.{length, not, slice_get, IsTrue, MatchOption};
 ghost use Rattle.std.specs.List.{prefix_len};
 ghost use Rattle.dactl_resume.specs.Answers.{lines_of, DiffersFirst};
 ghost use Rattle.dactl_resume.specs.Parts.{next_line};
@@ -40,7 +41,8 @@ pub fn count_lines(text: &[u8]) -> u32
 
 // Whether both texts have the same byte there.
 fn agree_at(text: &[u8], other: &[u8], at: usize) -> bool
-    ensures { IsTrue result ↔ ((at < length text.now) × (slice_get text.now at ≡ slice_get other.now at)) }
+    ensures { IsTrue result
+        ↔ ((at < length text.now) × (slice_get text.now at ≡ slice_get other.now at)) }
 {
     match (text.get(at), other.get(at)) {
         (Some(byte), Some(same)) => *byte == *same,
@@ -48,11 +50,13 @@ fn agree_at(text: &[u8], other: &[u8], at: usize) -> bool
     }
 }
 
-/// The first line in which the texts differ, counted from 1: one that the other text has not, differs
-/// too. None where the texts are the same.
+/// The first line in which the texts differ, counted from 1: one that the other text has not,
+/// differs too. None where the texts are the same.
 pub fn first_difference(text: &[u8], other: &[u8]) -> Option<u32>
     requires { length text.now ≤ 1048576 }
-    ensures { MatchOption result (text.now ≡ other.now) (λ line. (i : ℕ) × (line ≡ i + 1) × DiffersFirst text.now other.now i) }
+    ensures { MatchOption result
+        (text.now ≡ other.now)
+        (λ line. (i : ℕ) × (line ≡ i + 1) × DiffersFirst text.now other.now i) }
 {
     let mut line = 1;
     let mut at = 0;

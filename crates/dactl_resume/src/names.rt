@@ -8,8 +8,8 @@ use dactl_model::program::Program;
 use std::alloc::Global;
 use std::collections::BTreeMap;
 
-/// The numbers of a program's symbols, by the order of their names: a look-up compares the word with
-/// a few names.
+/// The numbers of a program's symbols, by the order of their names: a look-up compares the word
+/// with a few names.
 #[derive(Drop)]
 pub struct Names {
     pub places: BTreeMap<Vec<u8>, u32>,
@@ -17,6 +17,10 @@ pub struct Names {
 
 impl Names {
     /// The names of the program.
+    ///
+    /// # Errors
+    ///
+    /// `Memory` where there is not the memory for a copy of each name.
     pub fn new(alloc: Global, program: &Program) -> Result<Names, Memory>
         requires { length program.now.symbols < 2 ^ 31 }
         ensures { IfOk result (λ names. ArePlaces (names_of program.now) (found_in names.places)) }

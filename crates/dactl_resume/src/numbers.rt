@@ -1,5 +1,6 @@
 //! Numbers and what stands before them.
-ghost use Rattle.std.specs.Prelude.{◌≡◌, ◌≢◌, ◌++◌, ◌^◌, ◌<◌, ℕ, ℤ, List, MatchOption, Some, FitsSigned, true};
+ghost use Rattle.std.specs.Prelude.{◌≡◌, ◌≢◌, ◌++◌, ◌^◌, ◌<◌, ℕ, ℤ, List};
+ghost use Rattle.std.specs.Prelude.{MatchOption, Some, FitsSigned, true};
 ghost use Rattle.std.specs.Char.{is_ascii_digit};
 ghost use Rattle.std.specs.Fmt.{decimal, signed_decimal};
 ghost use Rattle.std.specs.Int.{w128};
@@ -10,7 +11,9 @@ use dactl_base::digits::Digits;
 
 /// What follows the prefix.
 pub fn strip<'a>(bytes: &'a [u8], prefix: &[u8]) -> Option<&'a [u8]>
-    ensures { MatchOption result ((rest : List ℕ) → bytes.now ≢ prefix.now ++ rest) (λ rest. bytes.now ≡ prefix.now ++ rest.now) }
+    ensures { MatchOption result
+        ((rest : List ℕ) → bytes.now ≢ prefix.now ++ rest)
+        (λ rest. bytes.now ≡ prefix.now ++ rest.now) }
 {
     bytes.strip_prefix(prefix)
 }
@@ -45,7 +48,9 @@ fn loose_integer(word: &[u8]) -> Option<i128>
 
 /// The integer of 128 bits whose decimal text the bytes are.
 pub fn integer_of(word: &[u8]) -> Option<i128>
-    ensures { MatchOption result ((z : ℤ) → FitsSigned w128 z → word.now ≢ signed_decimal z) (λ z. FitsSigned w128 z × (word.now ≡ signed_decimal z)) }
+    ensures { MatchOption result
+        ((z : ℤ) → FitsSigned w128 z → word.now ≢ signed_decimal z)
+        (λ z. FitsSigned w128 z × (word.now ≡ signed_decimal z)) }
 {
     let value = loose_integer(word)?;
     let mut digits = Digits::new();
@@ -58,7 +63,9 @@ pub fn integer_of(word: &[u8]) -> Option<i128>
 
 // The number of 32 bits whose decimal text the digits are.
 fn value_of(digits: &[u8]) -> Option<u32>
-    ensures { MatchOption result ((number : ℕ) → number < 2 ^ 32 → digits.now ≢ decimal number) (λ number. (number < 2 ^ 32) × (digits.now ≡ decimal number)) }
+    ensures { MatchOption result
+        ((number : ℕ) → number < 2 ^ 32 → digits.now ≢ decimal number)
+        (λ number. (number < 2 ^ 32) × (digits.now ≡ decimal number)) }
 {
     let value = integer_of(digits)?;
     if 0 <= value && value < 0x1_0000_0000 {
@@ -70,7 +77,9 @@ fn value_of(digits: &[u8]) -> Option<u32>
 
 /// The number behind the prefix, and what follows it. A number has 32 bits, and no zero before it.
 pub fn read_number<'a>(prefix: &[u8], bytes: &'a [u8]) -> Option<(u32, &'a [u8])>
-    ensures { MatchOption result ((number : ℕ) (rest : List ℕ) → BeginsWith prefix.now bytes.now number rest → ⊥) (λ found. BeginsWith prefix.now bytes.now found.0 found.1.now) }
+    ensures { MatchOption result
+        ((number : ℕ) (rest : List ℕ) → BeginsWith prefix.now bytes.now number rest → ⊥)
+        (λ found. BeginsWith prefix.now bytes.now found.0 found.1.now) }
 {
     let behind = strip(bytes, prefix)?;
     let (digits, rest) = split_digits(behind);

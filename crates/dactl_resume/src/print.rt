@@ -33,7 +33,11 @@ impl Sink for Printed {
     }
 }
 
-/// The print of the graph. Fails where memory is wanting.
+/// The print of the graph.
+///
+/// # Errors
+///
+/// `Failed` where there is not the memory for the print, or for the room to number the nodes.
 pub fn print_of(alloc: Global, program: &Program, graph: &Graph) -> Result<Vec<u8>, Failed>
     requires formed { IsWellFormed graph.now }
     requires few { length graph.now.nodes < 2 ^ 32 }

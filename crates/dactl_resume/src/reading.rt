@@ -1,5 +1,6 @@
 //! A graph that is read from its print.
-ghost use Rattle.std.specs.Prelude.{◌≡◌, ◌≢◌, ◌+◌, ◌≤◌, ◌^◌, ◌<◌, ℕ, [], IfOk, IfErr, MatchResult, length};
+ghost use Rattle.std.specs.Prelude.{◌≡◌, ◌≢◌, ◌+◌, ◌≤◌, ◌^◌, ◌<◌, ℕ, []};
+ghost use Rattle.std.specs.Prelude.{IfOk, IfErr, MatchResult, length};
 ghost use Rattle.dactl_model.specs.Programs.{IsValid};
 ghost use Rattle.dactl_resume.specs.Answers.{lines_of, IsGraphOf, IsRead};
 ghost use Rattle.dactl_resume.specs.Found.{found_in, ArePlaces};
@@ -66,18 +67,18 @@ fn compare(alloc: Global, program: &Program, graph: Graph, text: &[u8]) -> Resul
     }
 }
 
-/// Reads a printed graph. The text is to be exactly the print of a graph with the program's symbols,
-/// integers and characters: one line a node, in the order of a visit depth first from the root. The
-/// nodes of the graph have the numbers of their lines, less one. It takes time in proportion to the
-/// text, with a look-up of a name for each line.
+/// Reads a printed graph. The text is to be exactly the print of a graph with the program's
+/// symbols, integers and characters: one line a node, in the order of a visit depth first from the
+/// root. The nodes of the graph have the numbers of their lines, less one. It takes time in
+/// proportion to the text, with a look-up of a name for each line.
 ///
 /// # Errors
 ///
 /// `Bad` tells the first line that is bad: line 1 where the text has none; else the first line that
 /// is not the line of a node with the next number, a label of the program, targets among the lines,
-/// at most 16 arguments, none behind an integer or a character, and at most as many `#` as `^`; else
-/// the first line that differs from the print of the graph that the lines tell, where one that is
-/// missing differs too. `Memory` comes where memory is wanting.
+/// at most 16 arguments, none behind an integer or a character, and at most as many `#` as `^`;
+/// else the first line that differs from the print of the graph that the lines tell, where one that
+/// is missing differs too. `Memory` comes where memory is wanting.
 pub fn read_graph(alloc: Global, program: &Program, text: &[u8]) -> Result<Graph, GraphFault>
     requires valid { IsValid program.now }
     requires few { length text.now ≤ 1048576 }

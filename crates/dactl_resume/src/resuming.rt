@@ -2,7 +2,8 @@
 ghost use Rattle.std.specs.Prelude.{◌≡◌, ◌≤◌, map, IfOk, IfErr, length};
 ghost use Rattle.dactl_model.specs.Firing.{start_of};
 ghost use Rattle.dactl_model.specs.Programs.{IsValid};
-ghost use Rattle.dactl_resume.specs.Resumed.{fresh_of, fresh_arc_of, as_start, IsResumed, IsNotResumed};
+ghost use Rattle.dactl_resume.specs.Resumed.{fresh_of, fresh_arc_of, as_start};
+ghost use Rattle.dactl_resume.specs.Resumed.{IsResumed, IsNotResumed};
 
 use crate::fault::{GraphFault, NotResumed};
 use crate::reading::read_graph;
@@ -36,6 +37,10 @@ fn fresh_node(alloc: Global, node: &Node) -> Result<FreshNode, Memory>
 }
 
 /// The contractum whose graph this one is: node `k` of the graph is its item at place `k`.
+///
+/// # Errors
+///
+/// `Memory` where there is not the memory for the contractum; the graph is gone then.
 pub fn as_start(alloc: Global, graph: Graph) -> Result<Start, Memory>
     ensures start { IfOk result (λ start. start ≡ as_start graph) }
     ensures graph { IfOk result (λ start. start_of start ≡ graph) }
@@ -57,7 +62,8 @@ pub fn as_start(alloc: Global, graph: Graph) -> Result<Start, Memory>
 /// # Errors
 ///
 /// `Bad` comes where the text is no printed graph of the program; it tells the line as
-/// [`read_graph`] does, and hands the program back unchanged. `Memory` comes where memory is wanting.
+/// [`read_graph`] does, and hands the program back unchanged. `Memory` comes where memory is
+/// wanting; the program is gone then.
 pub fn resumed(alloc: Global, program: Program, text: &[u8]) -> Result<Program, NotResumed>
     requires valid { IsValid program }
     requires few { length text.now ≤ 1048576 }

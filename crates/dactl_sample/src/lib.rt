@@ -34,7 +34,9 @@ fn push_leaf(digits: &mut Digits, number: u32, text: &mut Vec<u8>) -> Result<(),
 fn push_tree(digits: &mut Digits, first: u32, count: u32, text: &mut Vec<u8>) -> Result<(), Memory>
     requires some { 0 < count }
     requires few { first + count ≤ MOST_LEAVES }
-    ensures { OnOk result ((tree : List ℕ) × IsTree first count tree × (text.new.items ≡ text.old.items ++ tree)) }
+    ensures { OnOk result ((tree : List ℕ)
+        × IsTree first count tree
+        × (text.new.items ≡ text.old.items ++ tree)) }
 {
     if count == 1 {
         push_leaf(digits, first, text)?;
@@ -49,8 +51,12 @@ fn push_tree(digits: &mut Digits, first: u32, count: u32, text: &mut Vec<u8>) ->
     Ok(())
 }
 
-/// A program over a tree of `count` leaves, which holds the numbers from 0 on. A run of it that is not stopped by
-/// its budget or its room ends with the sum of the numbers as its root.
+/// A program over a tree of `count` leaves, which holds the numbers from 0 on. A run of it that is
+/// not stopped by its budget or its room ends with the sum of the numbers as its root.
+///
+/// # Errors
+///
+/// `Memory` where the text cannot grow.
 pub fn sample_text(alloc: Global, count: u32) -> Result<Vec<u8>, Memory>
     requires some { 0 < count }
     requires few { count ≤ MOST_LEAVES }

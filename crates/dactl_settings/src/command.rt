@@ -24,6 +24,10 @@ fn flag<'a>(alloc: Global, name: &'a str) -> Arg<'a>
 }
 
 /// The command, with all its options and flags.
+///
+/// # Errors
+///
+/// `AllocError` where there is not the memory for its list of options and flags.
 pub fn command<'a>(alloc: Global) -> Result<Command<'a>, AllocError>
     ensures { IfOk result (λ made. app_of made ≡ spec.command) }
 {

@@ -39,10 +39,13 @@ fn read_number(text: &str, greatest: u32) -> Option<u32>
 
 // The number that the words give the option.
 fn number_of(matches: &ArgMatches<'_>, name: &str, greatest: u32) -> Result<Option<u32>, UsageFault>
-    ensures fits { IfOk result (λ _. spec.fits (rows_of (found_of matches.now)) (name.now, greatest) ≡ true) }
-    ensures number { IfOk result (λ number. number ≡ spec.number_of (rows_of (found_of matches.now)) name.now) }
+    ensures fits { IfOk result (λ _.
+        spec.fits (rows_of (found_of matches.now)) (name.now, greatest) ≡ true) }
+    ensures number { IfOk result (λ number.
+        number ≡ spec.number_of (rows_of (found_of matches.now)) name.now) }
     ensures fault { IfErr result (λ fault. fault ≡ UsageFault.Number) }
-    ensures misfit { IfErr result (λ _. spec.fits (rows_of (found_of matches.now)) (name.now, greatest) ≡ false) }
+    ensures misfit { IfErr result (λ _.
+        spec.fits (rows_of (found_of matches.now)) (name.now, greatest) ≡ false) }
 {
     match matches.get_str(name) {
         None => Ok(None),
@@ -98,8 +101,15 @@ fn settings_in(matches: &ArgMatches<'_>) -> Result<Settings, UsageFault>
 
 /// Reads the words of the command line, of which the first is the program's name and is never
 /// judged. A list without any word asks for the usual settings, as one with the name alone does.
+///
+/// # Errors
+///
+/// `Words` where a word is none of the command's, stands twice, or has no text where one is due;
+/// else `Number` where the text of an option is no number in its range; else `Both` where
+/// `--verify` and `--resume` stand together. `Memory` where memory is wanting.
 pub fn read_settings(alloc: Global, words: &[String]) -> Result<Settings, UsageFault>
-    ensures settings { (result ≡ spec.settings_of (map string_bytes words.now)) ⊎ (result ≡ Err UsageFault.Memory) }
+    ensures settings { (result ≡ spec.settings_of (map string_bytes words.now))
+        ⊎ (result ≡ Err UsageFault.Memory) }
     ensures limits { IfOk result IsWithinLimits }
 {
     let matches = command(alloc)?.try_get_matches_from(words)?;

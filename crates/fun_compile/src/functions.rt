@@ -10,6 +10,10 @@ use std::alloc::Global;
 use std::collections::BTreeSet;
 
 /// The first equation of each function, in text order.
+///
+/// # Errors
+///
+/// `Memory` where the list, or the set of the functions, cannot grow.
 pub fn first_equations(alloc: Global, equations: &[Equation]) -> Result<Vec<&Equation>, Memory>
     ensures { IfOk result (λ firsts. told firsts.items ≡ first_ones equations.now) }
 {

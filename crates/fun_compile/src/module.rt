@@ -30,7 +30,8 @@ fn imports(alloc: Global) -> Result<Item, Memory>
 
 /// The symbols that are rewritten: these functions, and `Chk`.
 fn functions(alloc: Global, firsts: &[&Equation]) -> Result<Item, Memory>
-    ensures { IfOk result (λ one. one ≡ item.Symbols classes.Rewritable None (map spec.word (map (λ eq. eq.head.text) (told firsts.now) ++ check_name ∷ []))) }
+    ensures { IfOk result (λ one. one ≡ item.Symbols classes.Rewritable None
+        (map spec.word (map (λ eq. eq.head.text) (told firsts.now) ++ check_name ∷ []))) }
 {
     let mut names = Items::new(alloc);
     for equation in firsts {
@@ -78,7 +79,8 @@ fn push_constructors(
 /// `INITIAL`, with what is asked for.
 fn initial(translator: &Translator, main: &Expr) -> Result<Item, Memory>
     requires { IsReady translator.now }
-    ensures { IfOk result (λ one. one ≡ item.Initial nowhere (spec.top translator.now.fun.now main.now ∷ [])) }
+    ensures { IfOk result (λ one.
+        one ≡ item.Initial nowhere (spec.top translator.now.fun.now main.now ∷ [])) }
 {
     let mut terms = Items::new(translator.alloc);
     terms.push(translator.top(main)?)?;

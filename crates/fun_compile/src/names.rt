@@ -16,6 +16,10 @@ use std::collections::BTreeSet;
 pub const NOWHERE: Place = Place { byte: 0 };
 
 /// A name of the translation.
+///
+/// # Errors
+///
+/// `Memory` where there is not the memory for a copy of the spelling.
 pub fn word(alloc: Global, spelling: &[u8]) -> Result<Name, Memory>
     ensures { IfOk result (λ name. name ≡ spec.word spelling.now) }
 {
@@ -27,6 +31,10 @@ pub fn word(alloc: Global, spelling: &[u8]) -> Result<Name, Memory>
 
 /// The set of these names. It is ordered: a text chooses its names, and could choose them for a
 /// hash.
+///
+/// # Errors
+///
+/// `Memory` where the set cannot grow.
 pub fn set_of<'a>(alloc: Global, names: &'a [Name]) -> Result<BTreeSet<&'a [u8]>, Memory>
     ensures { IfOk result (HasNames names.now) }
 {

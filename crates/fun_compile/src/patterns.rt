@@ -31,6 +31,10 @@ fn pattern_tree(alloc: Global, pattern: &Expr) -> Result<PatternTree, Memory>
 }
 
 /// The patterns as they stand in a rule.
+///
+/// # Errors
+///
+/// `Memory` where memory is wanting.
 #[cycle(patterns)]
 pub fn pattern_trees(alloc: Global, patterns: &[Expr]) -> Result<Items<PatternTree>, Memory>
     ensures { IfOk result (λ trees. trees ≡ map spec.pattern_tree patterns.now) }
@@ -54,6 +58,10 @@ fn any_patterns(alloc: Global, count: usize) -> Result<Items<PatternTree>, Memor
 }
 
 /// The pattern of a symbol over any arguments.
+///
+/// # Errors
+///
+/// `Memory` where memory is wanting.
 pub fn any_call(alloc: Global, symbol: &[u8], count: usize) -> Result<PatternTree, Memory>
     ensures { IfOk result (λ tree. tree ≡ p.Sym (spec.word symbol.now) (replicate count p.Any)) }
 {
@@ -64,6 +72,10 @@ pub fn any_call(alloc: Global, symbol: &[u8], count: usize) -> Result<PatternTre
 }
 
 /// The pattern with the name of a variable before it.
+///
+/// # Errors
+///
+/// `Memory` where memory is wanting.
 pub fn bound(alloc: Global, variable: &[u8], inner: PatternTree) -> Result<PatternTree, Memory>
     ensures { IfOk result (λ tree. tree ≡ p.Binder (spec.word variable.now) inner) }
 {
@@ -74,6 +86,10 @@ pub fn bound(alloc: Global, variable: &[u8], inner: PatternTree) -> Result<Patte
 }
 
 /// `INT + True + False`.
+///
+/// # Errors
+///
+/// `Memory` where memory is wanting.
 pub fn values(alloc: Global) -> Result<PatternTree, Memory>
     ensures { IfOk result (λ tree. tree ≡ spec.values_tree) }
 {

@@ -76,7 +76,9 @@ fn check_rule(alloc: Global) -> Result<RuleTree, Memory>
 
 /// Puts the last rules of these functions behind the groups.
 fn push_rests(alloc: Global, groups: &mut Items<Group>, firsts: &[&Equation]) -> Result<(), Memory>
-    ensures { OnOk result (groups.new ≡ groups.old ++ map (λ eq. spec.group_of (spec.rest_tree eq.head.text (length eq.patterns))) (told firsts.now)) }
+    ensures { OnOk result (groups.new ≡ groups.old
+        ++ map (λ eq. spec.group_of (spec.rest_tree eq.head.text (length eq.patterns)))
+        (told firsts.now)) }
 {
     for equation in firsts {
         let head = equation.head.text.as_slice();
@@ -108,7 +110,8 @@ impl Translator<'_> {
     /// The rules of these equations.
     fn equation_groups(&self, equations: &[Equation]) -> Result<Items<Group>, Memory>
         requires { IsReady self.now }
-        ensures { IfOk result (λ groups. groups ≡ map (λ eq. spec.group_of (spec.equation_tree self.now.fun.now eq)) equations.now) }
+        ensures { IfOk result (λ groups. groups
+            ≡ map (λ eq. spec.group_of (spec.equation_tree self.now.fun.now eq)) equations.now) }
     {
         let mut groups = Items::new(self.alloc);
         for equation in equations {
@@ -119,6 +122,10 @@ impl Translator<'_> {
     }
 
     /// All rules, told the first equation of each function.
+    ///
+    /// # Errors
+    ///
+    /// `Memory` where memory is wanting, and where a call waits for more than 2^32 - 1 arguments.
     pub fn groups(&self, firsts: &[&Equation]) -> Result<Items<Group>, Memory>
         requires ready { IsReady self.now }
         requires firsts { told firsts.now ≡ first_ones self.now.fun.now.equations }

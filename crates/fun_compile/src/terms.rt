@@ -55,6 +55,10 @@ fn marks_for(count: u32) -> Marks
 }
 
 /// A name alone, with marks before it.
+///
+/// # Errors
+///
+/// `Memory` where memory is wanting.
 pub fn bare(alloc: Global, marks: Marks, name: &[u8]) -> Result<TermTree, Memory>
     ensures { IfOk result (λ term. term ≡ spec.bare marks name.now) }
 {
@@ -112,7 +116,8 @@ fn starred(term: TermTree) -> TermTree
 
 /// The name over arguments, with marks before it.
 fn call(alloc: Global, marks: Marks, name: &[u8], args: Items<ArgTree>) -> Result<TermTree, Memory>
-    ensures { IfOk result (λ term. term ≡ spec.marked marks (roll-NodeTree (NodeTree-F.Sym (spec.word name.now) args))) }
+    ensures { IfOk result (λ term.
+        term ≡ spec.marked marks (roll-NodeTree (NodeTree-F.Sym (spec.word name.now) args))) }
 {
     let name = word(alloc, name)?;
     Ok(marked(marks, NodeTree::Sym { name, args }))
@@ -140,6 +145,10 @@ fn counted(count: u32, pure: bool) -> Result<u32, Memory>
 
 impl<'a> Translator<'a> {
     /// What translates these equations.
+    ///
+    /// # Errors
+    ///
+    /// `Memory` where there is not the memory for the set of the names that `DATA` declares.
     pub fn new(alloc: Global, fun: &'a Fun) -> Result<Translator<'a>, Memory>
         ensures ready { IfOk result IsReady }
         ensures fun { IfOk result (λ t. t.fun ≡ fun.entry) }
@@ -214,6 +223,10 @@ impl<'a> Translator<'a> {
     }
 
     /// The expression as a term of a rule's right side, which the rule makes active.
+    ///
+    /// # Errors
+    ///
+    /// `Memory` where memory is wanting, and where a call waits for more than 2^32 - 1 arguments.
     pub fn top(&self, expression: &Expr) -> Result<TermTree, Memory>
         requires { IsReady self.now }
         ensures { IfOk result (λ term. term ≡ spec.top self.now.fun.now expression.now) }

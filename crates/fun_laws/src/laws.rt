@@ -1,6 +1,8 @@
 //! Laws about the definitions alone: each function's contract is its law, and its body is empty.
 ghost use Rattle.fun_laws.specs.Example.{ExampleIsSound, ExampleHasNoValue, ExampleHasValue};
-ghost use Rattle.fun_laws.specs.Statements.{TranslationIsProgram, TranslationHasNoFault, TranslationIsSpelled, TranslationIsCountable, TranslationIsValid, RunsAreTidy, ValuesAreMeant};
+ghost use Rattle.fun_laws.specs.Statements.{TranslationIsProgram, TranslationHasNoFault};
+ghost use Rattle.fun_laws.specs.Statements.{TranslationIsSpelled, TranslationIsCountable};
+ghost use Rattle.fun_laws.specs.Statements.{TranslationIsValid, RunsAreTidy, ValuesAreMeant};
 
 /// What the translation of sound equations means is a program of them.
 pub fn translation_is_program()
