@@ -16,26 +16,3 @@ mod steps;
 mod telling;
 
 pub use call::dactl;
-
-#[cfg(test)]
-mod compile_tests;
-#[cfg(test)]
-mod device_tests;
-#[cfg(test)]
-mod fun_tests;
-#[cfg(test)]
-mod limit_tests;
-#[cfg(test)]
-mod parts_tests;
-#[cfg(test)]
-mod refusal_tests;
-#[cfg(test)]
-mod run_tests;
-#[cfg(test)]
-mod store_tests;
-#[cfg(test)]
-mod syntax_tests;
-#[cfg(test)]
-mod testing;
-#[cfg(test)]
-mod worker_tests;

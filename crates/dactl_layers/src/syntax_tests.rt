@@ -1,6 +1,6 @@
 //! The canonical text of a tree.
 
-use crate::testing::APPEND;
+use crate::texts::APPEND;
 use dactl_base::refusal::TextFault;
 use dactl_syntax::{parse, write_text};
 use dactl_tokens::tokens;

@@ -1,7 +1,8 @@
 //! Texts of equations, with the flag that asks for them.
 
-use crate::testing::{APPEND, called, expect};
+use crate::testing::{called, expect};
 use dactl_base::refusal::{Kind, Place, Refusal};
+use dactl_layers::texts::APPEND;
 use std::alloc::AllocError;
 
 /// The sum of a list.

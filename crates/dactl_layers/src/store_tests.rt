@@ -7,8 +7,8 @@ ghost use Rattle.dactl_model.specs.Matching.{IsActive};
 ghost use Rattle.dactl_model.specs.Programs.{IsValid};
 ghost use Rattle.dactl_store.specs.Redirecting.{IsLatest};
 
-use crate::compile::compile;
-use crate::testing::{APPEND, BOTH, CHAIN, CHOICES, KEPT_FLAG, SHARED_CELL, SUM, TWO_OF_ONE};
+use crate::compiling::compile;
+use crate::texts::{APPEND, BOTH, CHAIN, CHOICES, KEPT_FLAG, SHARED_CELL, SUM, TWO_OF_ONE};
 use dactl_base::refusal::TextFault;
 use dactl_model::footprint::Woken;
 use dactl_model::graph::{Graph, Mark, Node, NodeId, Room};

@@ -1,8 +1,8 @@
 //! Whole programs that run: their ends, their graphs and their steps.
 
-use crate::testing::{
-    APPEND, APPENDED, BOTH, CHAIN, CHOICES, KEPT_FLAG, LOOP, PAIR, SHARED_CELL, TWO_OF_ONE, called,
-    expect,
+use crate::testing::{called, expect};
+use dactl_layers::texts::{
+    APPEND, APPENDED, BOTH, CHAIN, CHOICES, KEPT_FLAG, LOOP, PAIR, SHARED_CELL, TWO_OF_ONE,
 };
 use dactl_model::graph::{End, NodeId, Room};
 use std::alloc::AllocError;

@@ -2,9 +2,10 @@
 
 ghost use Rattle.std.specs.Prelude.{◌<◌};
 
-use crate::testing::{APPEND, APPENDED, Answered, PAIR, called_over};
+use crate::testing::{Answered, called_over};
 use dactl_base::memory::{MemorySink, MemorySource};
 use dactl_base::refusal::{Kind, Place, Refusal};
+use dactl_layers::texts::{APPEND, APPENDED, PAIR};
 use std::alloc::{AllocError, Global};
 
 /// What the text of a shared node prints.

@@ -1,7 +1,8 @@
 //! Texts that are no program, each kind of fault at its place.
 
-use crate::testing::{APPEND, called, expect};
+use crate::testing::{called, expect};
 use dactl_base::refusal::{Kind, Place, Refusal};
+use dactl_layers::texts::APPEND;
 use std::alloc::{AllocError, Global};
 use std::sync::Wait;
 use std::thread::Threads;

@@ -1,6 +1,6 @@
 //! The calls of the compiler one by one: what modules see, expansions and programs.
 
-use crate::compile::compile;
+use crate::compiling::compile;
 use dactl_base::refusal::TextFault;
 use dactl_meaning::tree::{Item, RuleTree, Text};
 use dactl_model::graph::{Label, Mark};

@@ -1,7 +1,8 @@
 //! Runs by several workers, and what their reports add up to.
 
-use crate::testing::{Answered, LOOP, called, called_at, called_over, repeated};
+use crate::testing::{Answered, called, called_at, called_over, repeated};
 use dactl_base::memory::{MemorySink, MemorySource};
+use dactl_layers::texts::LOOP;
 use dactl_model::graph::Entry;
 use dactl_workers::{Gate, WorkerReport};
 use std::alloc::{AllocError, Global};

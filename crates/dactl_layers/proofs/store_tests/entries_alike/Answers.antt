@@ -2,7 +2,7 @@ use Rattle.std.proofs.Common.{◌≡◌, ◌+◌, ◌≤◌, All, sym, ap, ◌�
 use Rattle.std.proofs.lemmas.List.Elements.{All-map}
 use Rattle.dactl_model.specs.Graphs.{IsWellFormed}
 use Rattle.dactl_model.proofs.KeptFire.{begins_well_formed}
-use Rattle.dactl_top.proofs.store_tests.entries_alike.Goals as goal
+use Rattle.dactl_layers.proofs.store_tests.entries_alike.Goals as goal
 
 pub loop-done-init : goal.loop-done-init
 loop-done-init c =

@@ -1,6 +1,7 @@
 //! Inputs in parts: a text, a marker line, and what follows it.
 
-use crate::testing::{BOTH, LOOP, PAIR, called, expect};
+use crate::testing::{called, expect};
+use dactl_layers::texts::{BOTH, LOOP, PAIR};
 use dactl_model::graph::{Entry, Event, NodeId};
 use std::alloc::{AllocError, Global};
 

@@ -7,7 +7,7 @@ use Rattle.dactl_model.specs.declared.graph.Event.TheVariants.{Fire, Note}
 use Rattle.dactl_model.specs.Firing.{IsFired}
 use Rattle.dactl_model.proofs.KeptFire.{keeps_well_formed}
 use Rattle.dactl_model.proofs.OneMatch.{has_one_step}
-use Rattle.dactl_top.proofs.store_tests.step.Goals as goal
+use Rattle.dactl_layers.proofs.store_tests.step.Goals as goal
 
 -- where nothing is redirected, the next version is greater still
 latest_more : (version : ℕ) (old new : Held) → IsLatest version old → new.versions ≡ old.versions → new.newest ≡ old.newest → IsLatest (version + 1) new
