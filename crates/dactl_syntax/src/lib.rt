@@ -8,8 +8,6 @@ mod patterns;
 mod rules;
 mod terminals;
 mod terms;
-#[cfg(test)]
-mod tests;
 mod text;
 mod token;
 mod write_items;
