@@ -14,7 +14,9 @@ use Rattle.dactl_meaning.specs.declared.tree.Name.{Name}
 use Rattle.dactl_meaning.specs.declared.tree.Marks.{Marks}
 use Rattle.dactl_meaning.specs.declared.tree.Marks.TheVariants as marks
 use Rattle.dactl_meaning.specs.declared.tree.NodeTree.TheOpen.{NodeTree-F, ArgTree-F, TermTree-F}
-use Rattle.dactl_meaning.specs.declared.tree.NodeTree.TheFolds.{fold-TermTree}
+use Rattle.dactl_meaning.specs.declared.tree.NodeTree.TheFolds.{fold-NodeTree, fold-ArgTree, fold-TermTree}
+use Rattle.dactl_meaning.specs.declared.tree.NodeTree.{NodeTree}
+use Rattle.dactl_meaning.specs.declared.tree.ArgTree.{ArgTree}
 use Rattle.dactl_meaning.specs.declared.tree.TermTree.{TermTree}
 use Rattle.dactl_meaning.specs.declared.tree.Part.{Part}
 use Rattle.dactl_meaning.specs.declared.tree.Part.TheVariants as parts
@@ -82,6 +84,12 @@ term_drawn t = drawn_term t.name t.marks t.node
 -- what a term stands for, where the next new node has number k
 abbrev pub term_draws : TermTree → ℕ → Drawn
 term_draws = fold-TermTree (ℕ → Option Name → Marks → Drawn) (ℕ → DrawnArc) (ℕ → Drawn) node_drawn arg_drawn term_drawn
+
+abbrev pub node_draws : NodeTree → ℕ → Option Name → Marks → Drawn
+node_draws = fold-NodeTree (ℕ → Option Name → Marks → Drawn) (ℕ → DrawnArc) (ℕ → Drawn) node_drawn arg_drawn term_drawn
+
+abbrev pub arg_draws : ArgTree → ℕ → DrawnArc
+arg_draws = fold-ArgTree (ℕ → Option Name → Marks → Drawn) (ℕ → DrawnArc) (ℕ → Drawn) node_drawn arg_drawn term_drawn
 
 -- terms one after another
 abbrev pub terms_draw : ℕ → List TermTree → List Drawn

@@ -15,7 +15,7 @@ use Rattle.dactl_meaning.specs.declared.tree.PatternTree.TheVariants as p
 use Rattle.dactl_meaning.specs.Sight.{Seen, SeenSymbol, SeenPattern}
 use Rattle.dactl_meaning.specs.Expansion.{at_name, at_variable, join, chain, expansion_level, expansion_by, pattern_nodes, pattern_nodes_level}
 use Rattle.dactl_patterns.proofs.Trees.{fold_any, fold_int, fold_char, fold_integer, fold_letter, fold_symbol, fold_variable, fold_binder, fold_chain}
-use Rattle.dactl_patterns.proofs.Induction.{Each, EachLink, pattern_induction}
+use Rattle.dactl_meaning.proofs.Induction.{Each, EachLink, pattern_induction}
 
 -- ---- expansions
 

@@ -14,7 +14,7 @@ use Rattle.dactl_meaning.specs.declared.tree.PatternTree.TheOpen.{PatternTree-F}
 use Rattle.dactl_meaning.specs.Sight.{Seen}
 use Rattle.dactl_meaning.specs.Expansion.{is_plus, has_plus, at_name, at_variable, join, chain, expansion_level, expansion_by}
 use Rattle.dactl_patterns.proofs.Trees.{fold_symbol, fold_variable, fold_binder, fold_chain, fold_any, fold_int, fold_char, fold_integer, fold_letter}
-use Rattle.dactl_patterns.proofs.Layers.{plus_kept}
+use Rattle.dactl_meaning.proofs.Induction.{plus_kept}
 
 -- ---- one layer of an expansion
 

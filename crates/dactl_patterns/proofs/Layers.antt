@@ -17,6 +17,7 @@ use Rattle.dactl_meaning.specs.Uses.{Use, pattern_uses, pattern_uses_level}
 use Rattle.dactl_patterns.specs.Cycling.{used, link_used}
 use Rattle.dactl_patterns.specs.Occurring.{link_occurrences}
 use Rattle.dactl_patterns.specs.TreeFaults.{fault_if, wide_fault, wide_faults, link_wide_faults}
+use Rattle.dactl_meaning.proofs.Induction.{plus_kept}
 use Rattle.dactl_patterns.proofs.Growing.{flat_map-map}
 use Rattle.dactl_patterns.proofs.Trees.{fold_symbol, fold_variable, fold_binder, fold_chain}
 
@@ -30,11 +31,6 @@ occurs_variable name choice = ap (λ (f : Bool → List Occurrence). f choice) (
 
 pub occurs_binder : (name : Name) (inner : PatternTree) (choice : Bool) → occurrences_in (p.Binder name inner) choice ≡ record { name = name; given = true; in_choice = choice } ∷ occurrences_in inner choice
 occurs_binder name inner choice = ap (λ (f : Bool → List Occurrence). f choice) (fold_binder occurrences_level name inner)
-
--- the signs stay where the patterns between them change
-pub plus_kept : {A B : Type 0} (f : A → B) (rest : List (Sign × A)) → has_plus (map (λ l. (l.0, f l.1)) rest) ≡ has_plus rest
-plus_kept f [] = refl
-plus_kept f (l ∷ rest) = ap (λ (b : Bool). spec.is_plus l.0 || b) (plus_kept f rest)
 
 pub occurs_chain : (first : PatternTree) (rest : List (Sign × PatternTree)) (choice : Bool) → occurrences_in (p.Chain first rest) choice ≡ occurrences_in first (choice || has_plus rest) ++ flat_map link_occurrences rest
 occurs_chain first rest choice =

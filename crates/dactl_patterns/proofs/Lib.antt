@@ -8,7 +8,6 @@ pub mod Gaining
 pub mod Reaching
 pub mod CycleFaults
 pub mod Descending
-pub mod Induction
 pub mod Expansions
 pub mod HeadLayers
 pub mod Within

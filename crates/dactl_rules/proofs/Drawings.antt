@@ -19,7 +19,8 @@ use Rattle.dactl_rules.specs.declared.drawing.Target.TheVariants as target
 use Rattle.dactl_rules.specs.declared.drawing.Sketch.{Sketch}
 use Rattle.dactl_rules.specs.declared.drawing.SketchArc.{SketchArc}
 use Rattle.dactl_rules.specs.declared.drawing.Drawing.{Drawing}
-use Rattle.dactl_rules.specs.Drawing.{node_draws, arg_draws, args_draw, node_mentioned, arg_mentioned, args_mentioned, arc_of, sketch_of, mention_of, named, with_arcs, made_in, mentioned_in, next_number, Grows, Draws, DrawsArc, DrawsArcs}
+use Rattle.dactl_meaning.specs.Contractum.{node_draws, arg_draws}
+use Rattle.dactl_rules.specs.Drawing.{args_draw, node_mentioned, arg_mentioned, args_mentioned, arc_of, sketch_of, mention_of, named, with_arcs, made_in, mentioned_in, next_number, Grows, Draws, DrawsArc, DrawsArcs}
 
 -- ---- a new node's arcs
 

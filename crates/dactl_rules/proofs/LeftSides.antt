@@ -12,7 +12,7 @@ use Rattle.dactl_rules.specs.Numbers.{variable_number}
 use Rattle.dactl_rules.specs.Lefts.{left_unbound, is_fixed, left_fixed}
 use Rattle.dactl_rules.proofs.ToldFaults.{each_flat, map_kept, place_by, variable_told}
 use Rattle.dactl_rules.proofs.Meanings.{variable_some, variable_none}
-use Rattle.dactl_rules.proofs.ValidTests.{or_left, or_right}
+use Rattle.dactl_validity.proofs.ValidTests.{or_left, or_right}
 
 -- ---- the names that pass
 

@@ -16,7 +16,7 @@ use Rattle.dactl_meaning.specs.RuleFaults.{rule_faults}
 use Rattle.dactl_symbols.specs.Least.{sooner, precedes, TellsLeast}
 use Rattle.dactl_symbols.proofs.Sooner.{sooner-None, sooner-assoc}
 use Rattle.dactl_rules.specs.declared.compiled.CompiledRules.{CompiledRules}
-use Rattle.dactl_rules.specs.Counting.{AreCountable}
+use Rattle.dactl_validity.specs.Counting.{AreCountable}
 use Rattle.dactl_rules.specs.RuleLists.{Adds, AddsGroups, HasRules, terms_of, placed_groups, groups_in, faults_in}
 use Rattle.dactl_rules.proofs.Least.{tells_append}
 use Rattle.dactl_rules.proofs.Listings.{one_more, flat_one}

@@ -17,7 +17,7 @@ use Rattle.dactl_meaning.specs.RuleFaults.{each_at, again, place_of, core_names,
 use Rattle.dactl_rules.specs.Numbers.{node_number, variable_number}
 use Rattle.dactl_rules.specs.Told.{fault_at, core_fault, wide_at, names_pattern, creatable_at, waits_at, waits_fault, unbound_at, mark_fault, mark_at, suspensions_in, faults_again, drawn_faults}
 use Rattle.dactl_rules.proofs.Tables.{is_some-first}
-use Rattle.dactl_rules.proofs.ValidTests.{or_assoc}
+use Rattle.dactl_validity.proofs.ValidTests.{or_assoc}
 
 -- ---- lists
 

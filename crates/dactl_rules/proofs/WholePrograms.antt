@@ -29,7 +29,7 @@ use Rattle.dactl_symbols.specs.Least.{sooner, TellsLeast}
 use Rattle.dactl_symbols.specs.Scoping.{seen_in, symbols_in, IsScopesOf}
 use Rattle.dactl_symbols.specs.Sights.{Sights}
 use Rattle.dactl_rules.specs.declared.compiled.CompiledRules.{CompiledRules}
-use Rattle.dactl_rules.specs.Counting.{AreCountable, IsCountable}
+use Rattle.dactl_validity.specs.Counting.{AreCountable, IsCountable}
 use Rattle.dactl_rules.specs.Drafts.{IsDraft}
 use Rattle.dactl_rules.specs.declared.initials.ReadInitials.{ReadInitials}
 use Rattle.dactl_rules.specs.Initials.{first_start, initial_faults, initials_in, root_in, start_from, AreMeant, AreRead}
@@ -39,7 +39,7 @@ use Rattle.dactl_rules.proofs.Late.{rule_phase, cycle_phase}
 use Rattle.dactl_rules.proofs.Least.{tells_append}
 use Rattle.dactl_rules.proofs.Listings.{items_more}
 use Rattle.dactl_rules.proofs.RuleLists.{none_told, both_none}
-use Rattle.dactl_rules.proofs.ValidPrograms.{valid_without_faults}
+use Rattle.dactl_validity.proofs.ValidPrograms.{valid_without_faults}
 
 -- ---- first graphs
 

@@ -36,9 +36,9 @@ use Rattle.dactl_rules.specs.Rules.{early_faults, fixed_faults, meant_of, IsAnsw
 use Rattle.dactl_rules.specs.Meant.{wake_of}
 use Rattle.dactl_rules.specs.Told.{fault_at, suspensions_in, drawn_faults}
 use Rattle.dactl_rules.proofs.Meanings.{wake_one}
-use Rattle.dactl_rules.proofs.ValidTests.{not_above as not_wider}
+use Rattle.dactl_validity.proofs.ValidTests.{not_above as not_wider}
 use Rattle.dactl_rules.proofs.LeftSides.{left_unbound_told, left_fixed_told}
-use Rattle.dactl_rules.proofs.ValidLists.{In, all_in, flat_in, map_in, get_in}
+use Rattle.dactl_validity.proofs.ValidLists.{In, all_in, flat_in, map_in, get_in}
 
 -- ---- the lists
 

@@ -5,7 +5,7 @@ use Rattle.dactl_meaning.specs.Declarations.{groups}
 use Rattle.dactl_meaning.specs.Meaning.{rules_from, RuleFault}
 use Rattle.dactl_symbols.specs.Least.{TellsLeast}
 use Rattle.dactl_rules.specs.declared.compiled.CompiledRules.{CompiledRules}
-use Rattle.dactl_rules.specs.Counting.{IsCountable}
+use Rattle.dactl_validity.specs.Counting.{IsCountable}
 
 -- this is the first fault of the text's rules; and where there is none, these are its rules, and it can be counted where its groups can
 pub record IsDraft (text : Text) (r : CompiledRules) : Type 0 where

@@ -8,7 +8,7 @@ use Rattle.dactl_meaning.specs.declared.tree.NodeTree.{NodeTree}
 use Rattle.dactl_meaning.specs.declared.tree.ArgTree.{ArgTree}
 use Rattle.dactl_meaning.specs.declared.tree.NodeTree.TheFolds.{fold-NodeTree, fold-ArgTree}
 use Rattle.dactl_meaning.specs.Contractum as contractum
-use Rattle.dactl_meaning.specs.Contractum.{Drawn, DrawnArc, MentionTree, node_drawn, arg_drawn, term_drawn, drawn_from, node_mentions, arg_mentions, term_mentions}
+use Rattle.dactl_meaning.specs.Contractum.{DrawnArc, MentionTree, arg_draws, drawn_from, node_mentions, arg_mentions, term_mentions}
 use Rattle.dactl_rules.specs.declared.drawing.Target.{Target}
 use Rattle.dactl_rules.specs.declared.drawing.Target.TheVariants as target
 use Rattle.dactl_rules.specs.declared.drawing.Core.{Core}
@@ -19,12 +19,6 @@ use Rattle.dactl_rules.specs.declared.drawing.Mentioned.{Mentioned}
 use Rattle.dactl_rules.specs.declared.drawing.Drawing.{Drawing}
 
 -- ---- one level of the definitions, at each part of a term
-
-abbrev pub node_draws : NodeTree → ℕ → Option Name → Marks → Drawn
-node_draws = fold-NodeTree (ℕ → Option Name → Marks → Drawn) (ℕ → DrawnArc) (ℕ → Drawn) node_drawn arg_drawn term_drawn
-
-abbrev pub arg_draws : ArgTree → ℕ → DrawnArc
-arg_draws = fold-ArgTree (ℕ → Option Name → Marks → Drawn) (ℕ → DrawnArc) (ℕ → Drawn) node_drawn arg_drawn term_drawn
 
 -- arguments one after another, where the next new node has number k
 abbrev pub args_draw : List ArgTree → ℕ → List DrawnArc

@@ -10,7 +10,7 @@ use Rattle.dactl_meaning.specs.RuleFaults.{contractum_faults}
 use Rattle.dactl_meaning.specs.Sight.{Seen}
 use Rattle.dactl_symbols.specs.Least.{TellsLeast}
 use Rattle.dactl_rules.specs.declared.initials.ReadInitials.{ReadInitials}
-use Rattle.dactl_rules.specs.Counting.{AreCountable}
+use Rattle.dactl_validity.specs.Counting.{AreCountable}
 
 -- the INITIAL of an item, if it is one
 abbrev pub initials_in : Placed → List PlacedInitial

@@ -7,8 +7,6 @@ pub mod Writing
 pub mod Lefts
 pub mod Reading
 pub mod Rules
-pub mod Counting
-pub mod Validity
 pub mod Listing
 pub mod RuleLists
 pub mod Initials

@@ -12,7 +12,7 @@ use Rattle.dactl_rules.specs.Lefts.{words}
 use Rattle.dactl_names.specs.Found.{found}
 use Rattle.dactl_rules.specs.Numbers.{node_number}
 use Rattle.dactl_rules.specs.Terms.{AreDrawn}
-use Rattle.dactl_rules.specs.Counting.{AreCounted}
+use Rattle.dactl_validity.specs.Counting.{AreCounted}
 
 -- this is what the rule's tree says
 pub record IsRead (text : Text) (m : ℕ) (tree : RuleTree) (r : RuleParts) : Type 0 where

@@ -13,7 +13,7 @@ use Rattle.dactl_meaning.specs.Meaning.{rules_from}
 use Rattle.dactl_meaning.specs.RuleFaults.{rule_faults}
 use Rattle.dactl_symbols.specs.Least.{sooner, TellsLeast}
 use Rattle.dactl_rules.specs.declared.compiled.CompiledRules.{CompiledRules}
-use Rattle.dactl_rules.specs.Counting.{AreCountable}
+use Rattle.dactl_validity.specs.Counting.{AreCountable}
 
 -- the terms of a rule's right side
 abbrev pub terms_of : RuleTree → List TermTree

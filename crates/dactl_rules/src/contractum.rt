@@ -1,6 +1,6 @@
 //! The terms of a contractum, drawn.
 ghost use Rattle.std.specs.Prelude.{◌≡◌, ℕ, ◌<◌, ◌^◌, true, IfOk, length, List, map, Some};
-ghost use Rattle.dactl_rules.specs.Counting.{arcs_of, AreCounted};
+ghost use Rattle.dactl_validity.specs.Counting.{arcs_of, AreCounted};
 ghost use Rattle.dactl_rules.specs.Drawing.{made_in, sketch_of};
 ghost use Rattle.dactl_names.specs.Found.{found};
 ghost use Rattle.dactl_rules.specs.Numbers.{node_number};

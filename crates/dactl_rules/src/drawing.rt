@@ -1,7 +1,8 @@
 //! What the terms of a contractum make and mention.
 ghost use Rattle.std.specs.Prelude.{◌≡◌, ◌<◌, ◌^◌, [], ◌∷◌, IfOk, OnOk, count_by, map};
 ghost use Rattle.dactl_meaning.specs.Contractum.{term_draws, mentions_in};
-ghost use Rattle.dactl_rules.specs.Drawing.{next_number, node_draws, node_mentioned, arg_draws, arg_mentioned, args_draw, args_mentioned, sketch_of, named, begun, with_arcs, made_in, mentioned_in, arc_of, Grows, Draws, DrawsArc, DrawsArcs};
+ghost use Rattle.dactl_meaning.specs.Contractum.{node_draws, arg_draws};
+ghost use Rattle.dactl_rules.specs.Drawing.{next_number, node_mentioned, arg_mentioned, args_draw, args_mentioned, sketch_of, named, begun, with_arcs, made_in, mentioned_in, arc_of, Grows, Draws, DrawsArc, DrawsArcs};
 
 use dactl_base::refusal::Memory;
 use dactl_meaning::tree::{ArgTree, Marks, Name, NodeTree, TermTree};

@@ -3,7 +3,7 @@ ghost use Rattle.std.specs.Prelude.{◌≡◌, [], ◌∷◌, ◌<◌, ◌^◌, 
 ghost use Rattle.std.specs.List.{flat_map};
 ghost use Rattle.dactl_meaning.specs.Meaning.{node_number as node_number_of};
 ghost use Rattle.dactl_symbols.specs.Scoping.{seen_in};
-ghost use Rattle.dactl_rules.specs.Counting.{AreCountable};
+ghost use Rattle.dactl_validity.specs.Counting.{AreCountable};
 ghost use Rattle.dactl_rules.specs.Drawing.{made_in, target_of};
 ghost use Rattle.dactl_rules.specs.Initials.{initials_in, root_in, start_from, AreMeant};
 ghost use Rattle.dactl_rules.specs.Listing.{placed};

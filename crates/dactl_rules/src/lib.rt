@@ -7,7 +7,6 @@ mod contractum;
 mod drawing;
 mod faults;
 mod initials;
-pub mod laws;
 mod lefts;
 mod listing;
 mod meaning;

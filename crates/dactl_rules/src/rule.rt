@@ -10,7 +10,7 @@ ghost use Rattle.dactl_base.specs.declared.refusal.Refusal.{Refusal};
 ghost use Rattle.dactl_symbols.specs.Least.{TellsLeast};
 ghost use Rattle.dactl_symbols.specs.Scoping.{class_in};
 ghost use Rattle.dactl_patterns.specs.Table.{AreNamed};
-ghost use Rattle.dactl_rules.specs.Counting.{AreCountable};
+ghost use Rattle.dactl_validity.specs.Counting.{AreCountable};
 ghost use Rattle.dactl_rules.specs.Terms.{IsReady, AreDrawn};
 ghost use Rattle.dactl_rules.specs.Drawing.{made_in};
 ghost use Rattle.dactl_names.specs.Found.{found};

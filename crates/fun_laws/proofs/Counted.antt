@@ -20,7 +20,7 @@ use Rattle.fun_meaning.specs.Values.{is_constructor, word}
 use Rattle.fun_compile.specs.Translated.{Put, bare, marked, node_over, marks_for, waiting, checked, wrapped, made_put, put_level, put, top_of, top}
 use Rattle.dactl_meaning.specs.Unplaced.{nowhere}
 use Rattle.fun_meaning.specs.Spelt.{weight_level, weight_of}
-use Rattle.dactl_rules.specs.Counting.{arcs_of, AreCounted}
+use Rattle.dactl_validity.specs.Counting.{arcs_of, AreCounted}
 use Rattle.fun_meaning.proofs.Inducing.{Each, expr_induction}
 use Rattle.fun_laws.proofs.Drawing.{drawn_puts, bare_draws, integer_draws, over_draws, checked_draws}
 use Rattle.fun_laws.proofs.Lists.{length_of_map}

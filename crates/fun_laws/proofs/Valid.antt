@@ -9,8 +9,8 @@ use Rattle.dactl_meaning.specs.Declarations.{PlacedRule, rules, groups}
 use Rattle.dactl_meaning.specs.Contractum.{Drawn, term_of_part}
 use Rattle.dactl_meaning.specs.Meaning.{PlacedInitial, all_initials}
 use Rattle.dactl_meaning.specs.Spelling.{contracta}
-use Rattle.dactl_rules.specs.Counting.{AreCounted, AreCountable}
-use Rattle.dactl_rules.proofs.ValidPrograms.{valid_without_faults}
+use Rattle.dactl_validity.specs.Counting.{AreCounted, AreCountable}
+use Rattle.dactl_validity.proofs.ValidPrograms.{valid_without_faults}
 use Rattle.fun_meaning.specs.declared.tree.Equation.{Equation}
 use Rattle.fun_meaning.specs.declared.tree.Fun.{Fun}
 use Rattle.fun_meaning.specs.Names.{Spelling, check_name}

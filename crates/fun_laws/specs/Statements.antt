@@ -9,7 +9,7 @@ use Rattle.dactl_model.specs.Steps.{Reduction}
 use Rattle.dactl_meaning.specs.Faults.{NoFault}
 use Rattle.dactl_meaning.specs.Meaning.{program_of, TreeFault}
 use Rattle.dactl_meaning.specs.Spelling.{IsSpelled}
-use Rattle.dactl_rules.specs.Counting.{IsCountable}
+use Rattle.dactl_validity.specs.Counting.{IsCountable}
 use Rattle.fun_meaning.specs.declared.tree.Expr.{Expr}
 use Rattle.fun_meaning.specs.declared.tree.Fun.{Fun}
 use Rattle.fun_meaning.specs.Values.{HasValue}

@@ -1,5 +1,5 @@
 use Rattle.std.proofs.Common.{◌≡◌, map, take}
-use Rattle.dactl_rules.specs.Counting.{arcs_of}
+use Rattle.dactl_validity.specs.Counting.{arcs_of}
 use Rattle.dactl_rules.specs.Drawing.{sketch_of}
 use Rattle.dactl_rules.proofs.contractum.arc_count.Given as goal
 

@@ -9,7 +9,7 @@ use Rattle.dactl_meaning.specs.RuleFaults.{pattern_faults}
 use Rattle.dactl_symbols.specs.Least.{TellsLeast}
 use Rattle.dactl_symbols.proofs.Sooner.{tells-sooner}
 use Rattle.dactl_patterns.specs.Expanded.{IsExpansion}
-use Rattle.dactl_rules.specs.Counting.{AreCounted}
+use Rattle.dactl_validity.specs.Counting.{AreCounted}
 use Rattle.dactl_rules.specs.Rules.{meant_of, IsAnswerFor}
 use Rattle.dactl_rules.proofs.WholeRules.{few_variables, whole_told, answer_due, meant_is}
 use Rattle.dactl_rules.proofs.rule.rule.Goals as goal

@@ -14,9 +14,9 @@ use Rattle.dactl_meaning.specs.declared.tree.NodeTree.TheFolds.{fold-NodeTree, f
 use Rattle.dactl_meaning.specs.Uses.{Use, joined, node_uses_level, arg_uses_level, term_uses_level, term_uses}
 use Rattle.dactl_meaning.specs.Contractum.{Target, Made, Named, Core, Number, Character, Of, Sketch, Drawn, DrawnArc, drawn_from, node_drawn, arg_drawn, term_drawn, term_draws, terms_draw, MentionTree, node_mentions, arg_mentions, term_mentions, mentions_in}
 use Rattle.dactl_meaning.specs.Spelling.{is_counted, node_whole, arg_whole, term_whole, is_whole}
-use Rattle.dactl_rules.proofs.ValidLists.{In, in_left, in_right, map_in, flat_in}
-use Rattle.dactl_patterns.proofs.Induction.{Each}
-use Rattle.dactl_rules.proofs.ValidTrees.{term_induction}
+use Rattle.dactl_validity.proofs.ValidLists.{In, in_left, in_right, map_in, flat_in}
+use Rattle.dactl_meaning.proofs.Induction.{Each}
+use Rattle.dactl_validity.proofs.ValidTrees.{term_induction}
 
 -- a target is a new node below the bound, or a name that is known
 abbrev pub Within : ℕ → (List ℕ → Type 0) → Target → Type 0

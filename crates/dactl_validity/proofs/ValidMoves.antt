@@ -10,9 +10,9 @@ use Rattle.dactl_meaning.specs.declared.tree.Part.{Part}
 use Rattle.dactl_meaning.specs.Expansion.{is_among, number_in}
 use Rattle.dactl_meaning.specs.Contractum.{Sketch, Drawn, term_draws, terms_draw, term_of_part, left_of_part, name_list, denotes, move_of, moves_from, root_move}
 use Rattle.dactl_meaning.specs.RuleFaults.{again, lefts_of}
-use Rattle.dactl_rules.proofs.ValidLists.{In, Pairs, in_either, in_map, map_in, all_of, all_pairs_of, pairs_append, pairs_map, pairs_unmap, pairs_weaker}
-use Rattle.dactl_rules.proofs.ValidTests.{neither_left, neither_right}
-use Rattle.dactl_rules.proofs.ValidVariables.{name_unequal, number_below, number_once}
+use Rattle.dactl_validity.proofs.ValidLists.{In, Pairs, in_either, in_map, map_in, all_of, all_pairs_of, pairs_append, pairs_map, pairs_unmap, pairs_weaker}
+use Rattle.dactl_validity.proofs.ValidTests.{neither_left, neither_right}
+use Rattle.dactl_validity.proofs.ValidVariables.{name_unequal, number_below, number_once}
 
 -- ---- names that do not come again
 

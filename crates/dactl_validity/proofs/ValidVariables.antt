@@ -2,8 +2,8 @@
 use Rattle.std.proofs.Common.{◌≡◌, ◌≢◌, ℕ, zero, suc, ◌+◌, ◌<◌, true, false, not, ◌||◌, List, [], ◌∷◌, length, refl, sym, ap, subst, ◌∙◌, arith, inl, inr, bytes_eq}
 use Rattle.std.proofs.lemmas.Slice.Eq.{bytes_eq-Decides}
 use Rattle.dactl_meaning.specs.Expansion.{is_among, each_once, number_in}
-use Rattle.dactl_rules.proofs.ValidTests.{is_false}
-use Rattle.dactl_rules.proofs.ValidLists.{In, Pairs, in_filter, filter_in, pairs_filter}
+use Rattle.dactl_validity.proofs.ValidTests.{is_false}
+use Rattle.dactl_validity.proofs.ValidLists.{In, Pairs, in_filter, filter_in, pairs_filter}
 
 pub same_name : (a b : List ℕ) → bytes_eq a b ≡ true → a ≡ b
 same_name a b e = (bytes_eq-Decides a b).0 e

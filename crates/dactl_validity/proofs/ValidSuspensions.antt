@@ -20,12 +20,11 @@ use Rattle.dactl_meaning.specs.declared.tree.TermTree.{TermTree}
 use Rattle.dactl_meaning.specs.Sight.{Seen, SeenSymbol, SeenPattern}
 use Rattle.dactl_meaning.specs.Expansion.{Occurrence, is_among, is_plus, has_plus, occurrences, occurrences_in, occurrences_level, at_name, join, chain, expansion_level, expansion_by, number_in, root_names, root_names_level}
 use Rattle.dactl_meaning.specs.Contractum.{MentionTree, mentions_of, has_hashes, asked_by, suspend_of}
-use Rattle.dactl_rules.proofs.ValidLists.{In, in_left}
-use Rattle.dactl_rules.proofs.ValidTests.{or_left, or_right, neither, neither_left, neither_right, is_false}
-use Rattle.dactl_rules.proofs.ValidPatterns.{expands, occurs}
-use Rattle.dactl_rules.proofs.ValidVariables.{among_of, number_once}
-use Rattle.dactl_patterns.proofs.Induction.{pattern_induction}
-use Rattle.dactl_patterns.proofs.Layers.{plus_kept}
+use Rattle.dactl_validity.proofs.ValidLists.{In, in_left}
+use Rattle.dactl_validity.proofs.ValidTests.{or_left, or_right, neither, neither_left, neither_right, is_false}
+use Rattle.dactl_validity.proofs.ValidPatterns.{expands, occurs}
+use Rattle.dactl_validity.proofs.ValidVariables.{among_of, number_once}
+use Rattle.dactl_meaning.proofs.Induction.{pattern_induction, plus_kept}
 
 -- ---- what stands for the root is bound
 

@@ -9,7 +9,7 @@ use Rattle.dactl_meaning.specs.declared.tree.TermTree.{TermTree}
 use Rattle.dactl_meaning.specs.declared.tree.NodeTree.TheOpen.{NodeTree-F, ArgTree-F, TermTree-F}
 use Rattle.dactl_meaning.specs.declared.tree.NodeTree.TheViews.{roll-NodeTree, roll-ArgTree, roll-TermTree}
 use Rattle.dactl_meaning.specs.declared.tree.NodeTree.TheFolds.{ind-TermTree, map-NodeTree, map-ArgTree, map-TermTree}
-use Rattle.dactl_patterns.proofs.Induction.{Each, each_of}
+use Rattle.dactl_meaning.proofs.Induction.{Each, each_of}
 
 -- what an induction over nodes, arguments and terms owes
 pub record TermCases (N : NodeTree → Type 0) (A : ArgTree → Type 0) (T : TermTree → Type 0) : Type 0 where

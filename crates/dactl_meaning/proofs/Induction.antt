@@ -1,10 +1,13 @@
 -- Induction over the trees of patterns.
-use Rattle.std.proofs.Common.{List, [], ◌∷◌, map, ℕ, ℤ, subst}
+use Rattle.std.proofs.Common.{◌≡◌, ℕ, ℤ, Bool, List, [], ◌∷◌, map, refl, ap, subst}
+use Rattle.std.specs.Prelude.{◌||◌}
 use Rattle.dactl_meaning.specs.declared.tree.Name.{Name}
 use Rattle.dactl_meaning.specs.declared.tree.Sign.{Sign}
 use Rattle.dactl_meaning.specs.declared.tree.PatternTree.{PatternTree}
 use Rattle.dactl_meaning.specs.declared.tree.PatternTree.TheOpen.{PatternTree-F}
 use Rattle.dactl_meaning.specs.declared.tree.PatternTree.TheViews.{roll-PatternTree}
+use Rattle.dactl_meaning.specs.Expansion as spec
+use Rattle.dactl_meaning.specs.Expansion.{has_plus}
 use Rattle.dactl_meaning.specs.declared.tree.PatternTree.TheFolds.{ind-PatternTree, map-PatternTree}
 
 -- the fact holds of each
@@ -50,3 +53,8 @@ pattern_level Q cases (PatternTree-F.Chain first rest) = cases.chain first.0 (ma
 
 pub pattern_induction : (Q : PatternTree → Type 0) → PatternCases Q → (t : PatternTree) → Q t
 pattern_induction Q cases = ind-PatternTree Q (λ x y is. subst (λ z. Q (roll-PatternTree z)) is (pattern_level Q cases y))
+
+-- the signs stay where the patterns between them change
+pub plus_kept : {A B : Type 0} (f : A → B) (rest : List (Sign × A)) → has_plus (map (λ l. (l.0, f l.1)) rest) ≡ has_plus rest
+plus_kept f [] = refl
+plus_kept f (l ∷ rest) = ap (λ (b : Bool). spec.is_plus l.0 || b) (plus_kept f rest)

@@ -12,8 +12,8 @@ use Rattle.dactl_meaning.specs.Declarations.{Written, same_home, Entity, AsModul
 use Rattle.dactl_meaning.specs.Sight.{Seen, SeenSymbol, SeenPattern, imports_from, class_seen, entity_seen, sees, entity_class, class_for}
 use Rattle.dactl_meaning.specs.Uses.{Use, uses}
 use Rattle.dactl_meaning.specs.ScopeFaults.{most_names, most_rules, is_usable, is_pattern, ScopeFault}
-use Rattle.dactl_rules.proofs.ValidLists.{In, Pairs, any_of, all_of, all_in, in_filter, filter_map_in, pairs_of_splits, pairs_filter_map, length_filter_map, length_none, length_some}
-use Rattle.dactl_rules.proofs.ValidPatterns.{SeesSymbol}
+use Rattle.dactl_validity.proofs.ValidLists.{In, Pairs, any_of, all_of, all_in, in_filter, filter_map_in, pairs_of_splits, pairs_filter_map, length_filter_map, length_none, length_some}
+use Rattle.dactl_validity.proofs.ValidPatterns.{SeesSymbol}
 
 -- ---- counts
 

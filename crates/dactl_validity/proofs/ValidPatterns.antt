@@ -24,10 +24,9 @@ use Rattle.dactl_meaning.specs.Declarations.{named_pattern}
 use Rattle.dactl_meaning.specs.Sight.{Seen, SeenSymbol, SeenPattern, sees}
 use Rattle.dactl_meaning.specs.Uses.{Use, joined, pattern_uses, pattern_uses_level}
 use Rattle.dactl_meaning.specs.Expansion.{Occurrence, is_plus, has_plus, occurrences_in, occurrences_level, at_name, at_variable, join, chain, expansion_level, expansion_by, expansion_of, named_expansion, number_in}
-use Rattle.dactl_rules.proofs.ValidLists.{In, in_left, in_right, in_either}
-use Rattle.dactl_rules.proofs.ValidTests.{both, or_left, or_right, or_false, or_assoc, neither, not_either, not_true, test_below}
-use Rattle.dactl_patterns.proofs.Induction.{Each, EachLink, pattern_induction}
-use Rattle.dactl_patterns.proofs.Layers.{plus_kept}
+use Rattle.dactl_validity.proofs.ValidLists.{In, in_left, in_right, in_either}
+use Rattle.dactl_validity.proofs.ValidTests.{both, or_left, or_right, or_false, or_assoc, neither, not_either, not_true, test_below}
+use Rattle.dactl_meaning.proofs.Induction.{Each, EachLink, pattern_induction, plus_kept}
 
 -- ---- what holds of each pattern of which an expansion is made
 

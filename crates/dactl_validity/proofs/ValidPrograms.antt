@@ -25,15 +25,15 @@ use Rattle.dactl_meaning.specs.RuleFaults.{contractum_faults, rule_faults}
 use Rattle.dactl_meaning.specs.ScopeFaults.{ScopeFault}
 use Rattle.dactl_meaning.specs.Meaning.{rule_of, rules_from, arithmetic_rules, PlacedInitial, all_initials, node_number, root_of, start_by, program_of, named_faults, faults_of_rules, TreeFault, is_wide}
 use Rattle.dactl_meaning.specs.Spelling.{is_whole, contracta, is_narrow_pattern, is_narrow_term, all_patterns, IsNarrowText, IsSpelled}
-use Rattle.dactl_rules.specs.Counting.{AreCountable, IsCountable}
-use Rattle.dactl_rules.specs.Validity.{IsValidWithoutFaults}
-use Rattle.dactl_rules.proofs.ValidLists.{In, Pairs, in_left, in_right, in_either, in_map, map_in, in_flat, in_place, in_get, all_of, all_in, all_pairs_of, pairs_append, pairs_of_all}
-use Rattle.dactl_rules.proofs.ValidPatterns.{named_plain}
-use Rattle.dactl_rules.proofs.ValidNames.{few_rules, symbols_truths, symbols_few, names_upper, names_distinct, sees_below, class_below, use_seen, given_symbol}
-use Rattle.dactl_rules.proofs.ValidContracta.{Faultless, HasNoFault, has_no_fault, news_fine, stands_fine}
-use Rattle.dactl_rules.proofs.ValidUses.{group_uses, in_rules, parts_uses, initial_uses, no_initials}
-use Rattle.dactl_rules.proofs.ValidRules.{Told, rule_valid}
-use Rattle.dactl_rules.proofs.ValidNarrow.{arithmetic_narrow, rule_narrow, news_narrow}
+use Rattle.dactl_validity.specs.Counting.{AreCountable, IsCountable}
+use Rattle.dactl_validity.specs.Validity.{IsValidWithoutFaults}
+use Rattle.dactl_validity.proofs.ValidLists.{In, Pairs, in_left, in_right, in_either, in_map, map_in, in_flat, in_place, in_get, all_of, all_in, all_pairs_of, pairs_append, pairs_of_all}
+use Rattle.dactl_validity.proofs.ValidPatterns.{named_plain}
+use Rattle.dactl_validity.proofs.ValidNames.{few_rules, symbols_truths, symbols_few, names_upper, names_distinct, sees_below, class_below, use_seen, given_symbol}
+use Rattle.dactl_validity.proofs.ValidContracta.{Faultless, HasNoFault, has_no_fault, news_fine, stands_fine}
+use Rattle.dactl_validity.proofs.ValidUses.{group_uses, in_rules, parts_uses, initial_uses, no_initials}
+use Rattle.dactl_validity.proofs.ValidRules.{Told, rule_valid}
+use Rattle.dactl_validity.proofs.ValidNarrow.{arithmetic_narrow, rule_narrow, news_narrow}
 
 -- ---- rules by their groups
 

@@ -34,12 +34,12 @@ use Rattle.dactl_meaning.specs.Expansion.{at_name, at_variable, join, chain, exp
 use Rattle.dactl_meaning.specs.Contractum.{Core, Number, Character, Of, Sketch, Drawn, DrawnArc, drawn_from, node_drawn, arg_drawn, term_drawn, term_draws, terms_draw, term_of_part, made_by, symbol_label, label_of, fresh_of, fresh_nodes}
 use Rattle.dactl_meaning.specs.Meaning.{rule_of}
 use Rattle.dactl_meaning.specs.Spelling.{pattern_narrow, is_narrow_pattern, node_narrow, arg_narrow, term_narrow, is_narrow_term, all_patterns, IsNarrowText}
-use Rattle.dactl_rules.specs.Drawing.{node_draws, arg_draws}
-use Rattle.dactl_rules.proofs.ValidLists.{In, in_right, in_map, in_flat, in_filter_map, map_in, flat_in, in_get, all_of, all_in}
-use Rattle.dactl_rules.proofs.ValidTests.{both}
-use Rattle.dactl_rules.proofs.ValidTrees.{term_induction}
-use Rattle.dactl_rules.proofs.ValidPatterns.{expands}
-use Rattle.dactl_patterns.proofs.Induction.{Each, EachLink, pattern_induction}
+use Rattle.dactl_meaning.specs.Contractum.{node_draws, arg_draws}
+use Rattle.dactl_validity.proofs.ValidLists.{In, in_right, in_map, in_flat, in_filter_map, map_in, flat_in, in_get, all_of, all_in}
+use Rattle.dactl_validity.proofs.ValidTests.{both}
+use Rattle.dactl_validity.proofs.ValidTrees.{term_induction}
+use Rattle.dactl_validity.proofs.ValidPatterns.{expands}
+use Rattle.dactl_meaning.proofs.Induction.{Each, EachLink, pattern_induction}
 
 -- ---- patterns
 

@@ -4,7 +4,7 @@ use Rattle.dactl_meaning.specs.declared.tree.Text.{Text}
 use Rattle.dactl_meaning.specs.Faults.{NoFault}
 use Rattle.dactl_meaning.specs.Meaning.{program_of, TreeFault}
 use Rattle.dactl_meaning.specs.Spelling.{IsSpelled}
-use Rattle.dactl_rules.specs.Counting.{IsCountable}
+use Rattle.dactl_validity.specs.Counting.{IsCountable}
 
 -- the program of a tree without faults is valid
 abbrev pub IsValidWithoutFaults : Type 0

@@ -22,12 +22,12 @@ use Rattle.dactl_meaning.specs.Expansion.{is_among, number_in}
 use Rattle.dactl_meaning.specs.Contractum.{Target, Made, Named, Core, Number, Character, Of, Sketch, Drawn, terms_draw, made_by, MentionTree, mentions_of, name_list, given_names, has_name, number_given, name_denotes, denotes, mark_of, symbol_label, label_of, fresh_of, fresh_nodes, has_star, wakes_of}
 use Rattle.dactl_meaning.specs.RuleFaults.{place_of, at_if, core_names, wide_in_contractum, is_pattern, not_creatable, bound_names, unbound_mentions, too_many_waits_at, too_many_waits, named_twice_in_contractum, marks_on_bound, suspended_again, each_at, contractum_faults}
 use Rattle.dactl_meaning.specs.Spelling.{is_counted, is_whole}
-use Rattle.dactl_rules.specs.Counting.{AreCountable}
-use Rattle.dactl_rules.proofs.ValidLists.{In, in_left, in_right, in_map, map_in, in_flat, flat_in, in_filter, filter_in, all_of}
-use Rattle.dactl_rules.proofs.ValidTests.{right_only, is_true, not_above, at_least}
-use Rattle.dactl_rules.proofs.ValidPatterns.{SeesBelow}
-use Rattle.dactl_rules.proofs.ValidVariables.{among_in, number_below}
-use Rattle.dactl_rules.proofs.ValidTerms.{Within, IsCore, IsSketch, IsDrawn, terms_drawn}
+use Rattle.dactl_validity.specs.Counting.{AreCountable}
+use Rattle.dactl_validity.proofs.ValidLists.{In, in_left, in_right, in_map, map_in, in_flat, flat_in, in_filter, filter_in, all_of}
+use Rattle.dactl_validity.proofs.ValidTests.{right_only, is_true, not_above, at_least}
+use Rattle.dactl_validity.proofs.ValidPatterns.{SeesBelow}
+use Rattle.dactl_validity.proofs.ValidVariables.{among_in, number_below}
+use Rattle.dactl_validity.proofs.ValidTerms.{Within, IsCore, IsSketch, IsDrawn, terms_drawn}
 
 -- ---- faults
 

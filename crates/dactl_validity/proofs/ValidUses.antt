@@ -13,7 +13,7 @@ use Rattle.dactl_meaning.specs.Uses.{Use, term_uses, part_uses, rule_uses, item_
 use Rattle.dactl_meaning.specs.Contractum.{term_of_part}
 use Rattle.dactl_meaning.specs.ScopeFaults.{item_initials, initials}
 use Rattle.dactl_meaning.specs.Meaning.{PlacedInitial, item_initial, all_initials}
-use Rattle.dactl_rules.proofs.ValidLists.{In, in_map, map_in, in_flat, flat_in}
+use Rattle.dactl_validity.proofs.ValidLists.{In, in_map, map_in, in_flat, flat_in}
 
 -- a group of an item: the item uses what its rules use
 abbrev IsGroupOf : ℕ → Item → PlacedGroup → Type 0

@@ -19,14 +19,14 @@ use Rattle.dactl_meaning.specs.Contractum.{term_of_part, made_by, fresh_nodes, m
 use Rattle.dactl_meaning.specs.RuleFaults.{again, place_of, binders_in_choice, named_twice_in_pattern, wide_in_pattern, at_if, is_too_wide, lefts_of, variable_lefts, unbound_lefts, redirects_root, suspendable, redirected_twice, not_overwritable, head_is, root_not_rewritable, is_class, each_at, contractum_faults, pattern_faults, left_faults, rule_faults}
 use Rattle.dactl_meaning.specs.Meaning.{head_symbol, rule_of}
 use Rattle.dactl_meaning.specs.Spelling.{is_whole}
-use Rattle.dactl_rules.specs.Counting.{AreCountable}
-use Rattle.dactl_rules.proofs.ValidLists.{In, Pairs, in_left, in_map, map_in, filter_every}
-use Rattle.dactl_rules.proofs.ValidTests.{neither_left, neither_right, is_true, not_above}
-use Rattle.dactl_rules.proofs.ValidPatterns.{SeesBelow, SeesSymbol, Plain, symbols_expanded, placed, told, bound}
-use Rattle.dactl_rules.proofs.ValidVariables.{among_in, in_once, once_in, once_distinct, number_below, number_of_some}
-use Rattle.dactl_rules.proofs.ValidContracta.{Faultless, NoPlace, faultless_left, faultless_right, no_place, none_passes, HasNoFault, has_no_fault, IsSeen, news_fine, wakes_fine, stands_fine}
-use Rattle.dactl_rules.proofs.ValidMoves.{again_none, all_once, all_beside, all_end}
-use Rattle.dactl_rules.proofs.ValidSuspensions.{beside_root, suspend_low, root_kept, none_of}
+use Rattle.dactl_validity.specs.Counting.{AreCountable}
+use Rattle.dactl_validity.proofs.ValidLists.{In, Pairs, in_left, in_map, map_in, filter_every}
+use Rattle.dactl_validity.proofs.ValidTests.{neither_left, neither_right, is_true, not_above}
+use Rattle.dactl_validity.proofs.ValidPatterns.{SeesBelow, SeesSymbol, Plain, symbols_expanded, placed, told, bound}
+use Rattle.dactl_validity.proofs.ValidVariables.{among_in, in_once, once_in, once_distinct, number_below, number_of_some}
+use Rattle.dactl_validity.proofs.ValidContracta.{Faultless, NoPlace, faultless_left, faultless_right, no_place, none_passes, HasNoFault, has_no_fault, IsSeen, news_fine, wakes_fine, stands_fine}
+use Rattle.dactl_validity.proofs.ValidMoves.{again_none, all_once, all_beside, all_end}
+use Rattle.dactl_validity.proofs.ValidSuspensions.{beside_root, suspend_low, root_kept, none_of}
 
 -- ---- the faults that a rule has not
 

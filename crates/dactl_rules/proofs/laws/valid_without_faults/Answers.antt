@@ -1,5 +1,0 @@
-use Rattle.dactl_rules.proofs.ValidPrograms.{valid_without_faults}
-use Rattle.dactl_rules.proofs.laws.valid_without_faults.Goals as goal
-
-pub returns : goal.returns
-returns c = valid_without_faults

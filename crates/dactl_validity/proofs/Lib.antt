@@ -1,0 +1,14 @@
+pub mod ValidTests
+pub mod ValidLists
+pub mod ValidTrees
+pub mod ValidPatterns
+pub mod ValidVariables
+pub mod ValidNames
+pub mod ValidTerms
+pub mod ValidContracta
+pub mod ValidMoves
+pub mod ValidSuspensions
+pub mod ValidNarrow
+pub mod ValidUses
+pub mod ValidRules
+pub mod ValidPrograms
