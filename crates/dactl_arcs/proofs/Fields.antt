@@ -52,14 +52,14 @@ module _ (firsts : List (Option ℕ)) (arcs : List LinkedArc) (room capacity : �
     in_arcs : (arc : ℕ) → arc < length pool.arcs → arc < length arcs
     in_arcs arc inside = omega (arith, ap (λ p. length p.arcs) view_is, length-map arcs (λ l. l.arc))
 
-    pub first_read : (slot : ℕ) (first : Option ℕ) → slot < slot_count pool → first ≡ get_or firsts slot first → first ≡ slice_get (list_of pool slot) 0
+    pub first_read : (slot : ℕ) (first : Option ℕ) → slot < slot_count pool → first ≡ get_or firsts slot None → first ≡ slice_get (list_of pool slot) 0
     first_read slot first inside read =
         let below = in_slots slot inside in
-        get_or_read firsts slot first below read None
+        read
         ∙ first_is arcs (get_or firsts slot None) (get_or (lists_of firsts arcs) slot []) (sound.lists.each slot below).follows
         ∙ ap (λ p. slice_get (list_of p slot) 0) view_is
 
-    pub whole_read : (slot : ℕ) (first : Option ℕ) → slot < slot_count pool → first ≡ get_or firsts slot first → rest_of_walk first (list_of pool slot) ≡ list_of pool slot
+    pub whole_read : (slot : ℕ) (first : Option ℕ) → slot < slot_count pool → first ≡ get_or firsts slot None → rest_of_walk first (list_of pool slot) ≡ list_of pool slot
     whole_read slot first inside read =
         ap (λ o. rest_of_walk o (list_of pool slot)) (first_read slot first inside read) ∙ whole_walk (list_of pool slot)
 
@@ -71,7 +71,7 @@ module _ (firsts : List (Option ℕ)) (arcs : List LinkedArc) (room capacity : �
         let below : arc < length (records_of arcs) = omega (arith, ltb-true arc (length arcs) parts.0, length-map arcs (λ l. l.arc)) in
         subst (λ p. IsIn p slot arc) view_is (below, eqb-true (target_of (records_of arcs) arc) slot parts.1)
 
-    pub first_leads : (slot : ℕ) (first : Option ℕ) → slot < slot_count pool → first ≡ get_or firsts slot first → IfSome first (IsIn pool slot)
+    pub first_leads : (slot : ℕ) (first : Option ℕ) → slot < slot_count pool → first ≡ get_or firsts slot None → IfSome first (IsIn pool slot)
     first_leads slot None inside read = tt
     first_leads slot (Some arc) inside read =
         let at_front = first_read slot (Some arc) inside read in
@@ -134,11 +134,10 @@ module _ (firsts : List (Option ℕ)) (arcs : List LinkedArc) (room capacity : �
           }
 
     -- a new arc
-    pub IsSound-added : (arc : LinkedArc) (number : ℕ) (items : List LinkedArc) → number ≡ length arcs → length pool.arcs < pool.room → arc.arc.target < slot_count pool → arc.next ≡ get_or firsts arc.arc.target arc.next → items ≡ arcs ++ arc ∷ [] → IsSound (set firsts arc.arc.target (Some number)) items room capacity
-    IsSound-added arc number items counted has_room inside read pushed =
+    pub IsSound-added : (arc : LinkedArc) (number : ℕ) (link : Option ℕ) (begun : List (Option ℕ)) (items : List LinkedArc) → number ≡ length arcs → length pool.arcs < pool.room → arc.arc.target < slot_count pool → arc.next ≡ get_or firsts arc.arc.target None → items ≡ arcs ++ arc ∷ [] → link ≡ Some number → begun ≡ set firsts arc.arc.target link → IsSound begun items room capacity
+    IsSound-added arc number link begun items counted has_room inside read pushed leads written =
         let below = in_slots arc.arc.target inside in
-        let linked = get_or_read firsts arc.arc.target arc.next below read None in
-        let added = read_lists _ _ _ (AreLists-added firsts arcs (lists_of firsts arcs) sound.lists arc below linked) in
+        let added = read_lists _ _ _ (AreLists-added firsts arcs (lists_of firsts arcs) sound.lists arc below read) in
         let all : IsSound (set firsts arc.arc.target (Some (length arcs))) (arcs ++ arc ∷ []) room capacity =
         record {
           fits = sound.fits;
@@ -146,7 +145,8 @@ module _ (firsts : List (Option ℕ)) (arcs : List LinkedArc) (room capacity : �
           taken = sound.taken;
           lists = added;
         } in
-        subst (λ n. IsSound (set firsts arc.arc.target (Some n)) items room capacity) (sym counted) (subst (λ xs. IsSound (set firsts arc.arc.target (Some (length arcs))) xs room capacity) (sym pushed) all)
+        let is = written ∙ ap (set firsts arc.arc.target) (leads ∙ ap Some counted) in
+        subst (λ fs. IsSound fs items room capacity) (sym is) (subst (λ xs. IsSound (set firsts arc.arc.target (Some (length arcs))) xs room capacity) (sym pushed) all)
 
     -- the first arc of a list goes in front of another
     module _ (arc from to : ℕ) (different : from ≢ to) (from_in : from < slot_count pool) (to_in : to < slot_count pool) (at_front : slice_get (list_of pool from) 0 ≡ Some arc) where
@@ -164,33 +164,38 @@ module _ (firsts : List (Option ℕ)) (arcs : List LinkedArc) (room capacity : �
       pub front_leads : IsIn pool from arc
       front_leads = on_walk from arc (in_slots from from_in) (has-at (get_or (lists_of firsts arcs) from []) 0 arc (ap (λ p. slice_get (list_of p from) 0) view_is ∙ at_front))
 
-      module _ (linked moved : LinkedArc) (behind : Option ℕ) (read : linked ≡ get_or arcs arc linked) (read_behind : behind ≡ get_or firsts to behind) (sent : moved.arc.target ≡ to) (joined : moved.next ≡ behind) where
+      module _ (linked moved : LinkedArc) (behind : Option ℕ) (read : linked ≡ get_or arcs arc linked) (read_behind : behind ≡ get_or firsts to None) (sent : moved.arc.target ≡ to) (joined : moved.next ≡ behind) where
         next_known : linked.next ≡ next_of arcs arc
         next_known = ap (λ l. l.next) (get_or_read arcs arc linked front_inside read unlinked)
 
         lists_moved : AreLists (set (set firsts from linked.next) to (Some arc)) (set arcs arc moved) (set (set (lists_of firsts arcs) from (drop 1 (get_or (lists_of firsts arcs) from []))) to (arc ∷ get_or (lists_of firsts arcs) to []))
         lists_moved =
             let rest = drop 1 (get_or (lists_of firsts arcs) from []) in
-            let link = joined ∙ get_or_read firsts to behind (in_slots to to_in) read_behind None in
+            let link = joined ∙ read_behind in
             let known = AreLists-moved firsts arcs (lists_of firsts arcs) sound.lists from to arc rest different (in_slots from from_in) (in_slots to to_in) split moved sent link in
             subst (λ o. AreLists (set (set firsts from o) to (Some arc)) (set arcs arc moved) (set (set (lists_of firsts arcs) from rest) to (arc ∷ get_or (lists_of firsts arcs) to []))) (sym next_known) known
 
-        pub IsSound-moved : IsSound (set (set firsts from linked.next) to (Some arc)) (set arcs arc moved) room capacity
-        IsSound-moved = record {
-          fits = sound.fits;
-          few = omega (arith, length-set arcs arc moved, sound.few);
-          taken = sound.taken;
-          lists = read_lists _ _ _ lists_moved;
-        }
+        module _ (mid now : List (Option ℕ)) (link : Option ℕ) (left : mid ≡ set firsts from linked.next) (begun : now ≡ set mid to link) (leads : link ≡ Some arc) where
+          firsts_are : now ≡ set (set firsts from linked.next) to (Some arc)
+          firsts_are = begun ∙ ap (set mid to) leads ∙ ap (λ fs. set fs to (Some arc)) left
 
-        pub length-moved : length (get_or (lists_of (set (set firsts from linked.next) to (Some arc)) (set arcs arc moved)) from []) + 1 ≡ length (list_of pool from)
-        length-moved =
-            let rest = drop 1 (get_or (lists_of firsts arcs) from []) in
-            let old_lists = lists_of firsts arcs in
-            let new_lists = set (set old_lists from rest) to (arc ∷ get_or old_lists to []) in
-            let read_new = lists_are _ _ _ lists_moved in
-            let in_lists : from < length old_lists = omega (arith, sound.lists.long, in_slots from from_in) in
-            let left : get_or new_lists from [] ≡ rest = get_or-set_other (set old_lists from rest) to from (arc ∷ get_or old_lists to []) [] different ∙ get_or-set_same old_lists from rest [] in_lists in
-            let new_length = ap (λ ls. length (get_or ls from [])) read_new ∙ ap length left in
-            let old_length = ap (λ p. length (list_of p from)) view_is in
-            omega (arith, new_length, old_length, ap length split)
+          pub IsSound-moved : IsSound now (set arcs arc moved) room capacity
+          IsSound-moved =
+              subst (λ fs. IsSound fs (set arcs arc moved) room capacity) (sym firsts_are) (record {
+                fits = sound.fits;
+                few = omega (arith, length-set arcs arc moved, sound.few);
+                taken = sound.taken;
+                lists = read_lists _ _ _ lists_moved;
+              })
+
+          pub length-moved : length (get_or (lists_of now (set arcs arc moved)) from []) + 1 ≡ length (list_of pool from)
+          length-moved =
+              let rest = drop 1 (get_or (lists_of firsts arcs) from []) in
+              let old_lists = lists_of firsts arcs in
+              let new_lists = set (set old_lists from rest) to (arc ∷ get_or old_lists to []) in
+              let read_new = ap (λ fs. lists_of fs (set arcs arc moved)) firsts_are ∙ lists_are _ _ _ lists_moved in
+              let in_lists : from < length old_lists = omega (arith, sound.lists.long, in_slots from from_in) in
+              let left : get_or new_lists from [] ≡ rest = get_or-set_other (set old_lists from rest) to from (arc ∷ get_or old_lists to []) [] different ∙ get_or-set_same old_lists from rest [] in_lists in
+              let new_length = ap (λ ls. length (get_or ls from [])) read_new ∙ ap length left in
+              let old_length = ap (λ p. length (list_of p from)) view_is in
+              omega (arith, new_length, old_length, ap length split)

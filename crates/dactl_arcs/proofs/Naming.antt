@@ -3,7 +3,7 @@ use Rattle.std.proofs.Common.{◌≡◌, ◌≢◌, ℕ, ◌<◌, false, ◌&&�
 use Rattle.std.specs.List.{slice_get}
 use Rattle.std.proofs.lemmas.Bool.{eq-eqb, ne_eqb, ltb-true, cases_eq, cases_Bool, and_left, cond-true, cond-false}
 use Rattle.std.proofs.lemmas.Bool.Decides.{nat_tests}
-use Rattle.std.proofs.lemmas.List.{length-map, get_or-map, get_or_read, map-append, map-set, same_lists}
+use Rattle.std.proofs.lemmas.List.{length-map, get_or-map, map-append, map-set, same_lists}
 use Rattle.std.specs.Option.{option_map}
 use Rattle.std.proofs.lemmas.Option.{get_or_from_slice_get, slice_get-map, slice_get_within}
 use Rattle.dactl_arcs.specs.declared.lists.ArcRecord.{ArcRecord}
@@ -182,13 +182,6 @@ module _ (lists : Linked) (names homes : List ℕ) (is : IsNaming (slot_count li
       ∙ ap (λ t. sent_to t (record_at lists.arcs k)) (name_swapped (slot_count lists) names homes is from to different from_in to_in (target_of lists.arcs k) within)
       ∙ sym (get_or-map (swapped from to) seen.arcs k no_arc d (omega (arith, long_seen)) ∙ ap (swapped from to) (record_seen k below)))
 
-  -- what was read of the homes
-  pub home_read : (slot home : ℕ) → slot < slot_count lists → home ≡ get_or homes slot home → home ≡ number_at homes slot
-  home_read slot home inside read = get_or_read homes slot home (omega (arith, is.homes_long)) read 0
-
-  pub name_read : (list name : ℕ) → list < slot_count lists → name ≡ get_or names list name → name ≡ number_at names list
-  name_read list name inside read = get_or_read names list name (omega (arith, is.names_long)) read 0
-
   pub got_seen : (arc : ℕ) (r : ArcRecord) → slice_get lists.arcs arc ≡ Some r → slice_get seen.arcs arc ≡ Some (named names r)
   got_seen arc r at = slice_get-map (named names) lists.arcs arc ∙ ap (option_map (named names)) at
 
@@ -216,9 +209,6 @@ module _ (lists : Linked) (names homes : List ℕ) (is : IsNaming (slot_count li
     pub arc_in_lists : (arc : ℕ) → arc < length pool.arcs → arc < length lists.arcs
     arc_in_lists arc inside = omega (arith, ap (λ p. length p.arcs) view_is, long_seen)
 
-    pub home_on : (slot home : ℕ) → slot < slot_count pool → home ≡ get_or homes slot home → home ≡ number_at homes slot
-    home_on slot home inside read = home_read slot home (in_lists slot inside) read
-
     pub target_on : (arc : ℕ) (r : ArcRecord) → slice_get lists.arcs arc ≡ Some r → IsValidLists lists → r.target < length names
     target_on arc r at valid =
         let below = slice_get_within lists.arcs arc r at in
@@ -226,41 +216,44 @@ module _ (lists : Linked) (names homes : List ℕ) (is : IsNaming (slot_count li
         omega (arith, is.names_long)
 
     -- the arc as it is seen
-    pub arc_on : (arc name : ℕ) (r : ArcRecord) → slice_get lists.arcs arc ≡ Some r → IsValidLists lists → name ≡ get_or names r.target name → slice_get pool.arcs arc ≡ Some (sent_to name r)
-    arc_on arc name r at valid read =
-        let below = slice_get_within lists.arcs arc r at in
-        let is_r : record_at lists.arcs arc ≡ r = get_or_from_slice_get lists.arcs arc r no_arc at in
-        let within : r.target < slot_count lists = subst (λ x. x.target < slot_count lists) is_r (valid.within arc below) in
-        ap (λ p. slice_get p.arcs arc) (sym view_is) ∙ got_seen arc r at ∙ ap (λ n. Some (sent_to n r)) (sym (name_read r.target name within read))
+    pub arc_on : (arc name : ℕ) (r : ArcRecord) → slice_get lists.arcs arc ≡ Some r → name ≡ number_at names r.target → slice_get pool.arcs arc ≡ Some (sent_to name r)
+    arc_on arc name r at read =
+        ap (λ p. slice_get p.arcs arc) (sym view_is) ∙ got_seen arc r at ∙ ap (λ n. Some (sent_to n r)) (sym read)
 
     -- an arc goes to another slot's list
-    module _ (arc from to one other : ℕ) (from_in : from < slot_count pool) (to_in : to < slot_count pool) (one_read : one ≡ get_or homes from one) (other_read : other ≡ get_or homes to other) (leads : IsIn lists one arc) where
+    module _ (arc from to one other : ℕ) (from_in : from < slot_count pool) (to_in : to < slot_count pool) (one_read : one ≡ number_at homes from) (other_read : other ≡ number_at homes to) (leads : IsIn lists one arc) where
       pub move_seen : (arcs : List ArcRecord) → arcs ≡ set lists.arcs arc (sent_to other (record_at lists.arcs arc)) → map (named names) arcs ≡ set pool.arcs arc (sent_to to (record_at pool.arcs arc))
       move_seen arcs moved =
-          let name = ap (number_at names) (home_on to other to_in other_read) ∙ (is.home to (in_lists to to_in)).1 in
+          let name = ap (number_at names) other_read ∙ (is.home to (in_lists to to_in)).1 in
           ap (map (named names)) moved ∙ moved_seen arc other to leads.0 name ∙ ap (λ p. set p.arcs arc (sent_to to (record_at p.arcs arc))) view_is
 
       pub leads_on : IsIn pool from arc
-      leads_on = subst (λ p. IsIn p from arc) view_is (leads_seen from arc (in_lists from from_in) (subst (λ l. IsIn lists l arc) (home_on from one from_in one_read) leads))
+      leads_on = subst (λ p. IsIn p from arc) view_is (leads_seen from arc (in_lists from from_in) (subst (λ l. IsIn lists l arc) one_read leads))
 
-    pub clear_on : (slot home : ℕ) (arcs : List ArcRecord) → slot < slot_count pool → home ≡ get_or homes slot home → IsValidLists lists → arcs ≡ map (cleared home) lists.arcs → map (named names) arcs ≡ map (cleared slot) pool.arcs
+    pub clear_on : (slot home : ℕ) (arcs : List ArcRecord) → slot < slot_count pool → home ≡ number_at homes slot → IsValidLists lists → arcs ≡ map (cleared home) lists.arcs → map (named names) arcs ≡ map (cleared slot) pool.arcs
     clear_on slot home arcs inside read valid written =
-        ap (map (named names)) (written ∙ ap (λ h. map (cleared h) lists.arcs) (home_on slot home inside read)) ∙ cleared_seen slot (in_lists slot inside) valid ∙ ap (λ p. map (cleared slot) p.arcs) view_is
+        ap (map (named names)) (written ∙ ap (λ h. map (cleared h) lists.arcs) read) ∙ cleared_seen slot (in_lists slot inside) valid ∙ ap (λ p. map (cleared slot) p.arcs) view_is
 
     -- an arc is added
-    pub add_on : (arc : ArcRecord) (home : ℕ) (arcs : List ArcRecord) → arc.target < slot_count pool → home ≡ get_or homes arc.target home → arcs ≡ lists.arcs ++ sent_to home arc ∷ [] → map (named names) arcs ≡ pool.arcs ++ arc ∷ []
+    pub add_on : (arc : ArcRecord) (home : ℕ) (arcs : List ArcRecord) → arc.target < slot_count pool → home ≡ number_at homes arc.target → arcs ≡ lists.arcs ++ sent_to home arc ∷ [] → map (named names) arcs ≡ pool.arcs ++ arc ∷ []
     add_on arc home arcs inside read grown =
-        ap (map (named names)) (grown ∙ ap (λ h. lists.arcs ++ sent_to h arc ∷ []) (home_on arc.target home inside read)) ∙ added_seen arc arc.target (in_lists arc.target inside) refl ∙ ap (λ p. p.arcs ++ arc ∷ []) view_is
+        ap (map (named names)) (grown ∙ ap (λ h. lists.arcs ++ sent_to h arc ∷ []) read) ∙ added_seen arc arc.target (in_lists arc.target inside) refl ∙ ap (λ p. p.arcs ++ arc ∷ []) view_is
 
-    module _ (from to one other : ℕ) (different : from ≢ to) (from_in : from < slot_count pool) (to_in : to < slot_count pool) (one_read : one ≡ get_or homes from one) (other_read : other ≡ get_or homes to other) where
-      pub swap_names : IsNaming (slot_count lists) (set (set names one to) other from) (set (set homes from other) to one)
-      swap_names =
-          subst (λ x. IsNaming (slot_count lists) (set (set names x to) other from) (set (set homes from other) to x)) (sym (home_on from one from_in one_read))
-          (subst (λ y. IsNaming (slot_count lists) (set (set names (number_at homes from) to) y from) (set (set homes from y) to (number_at homes from))) (sym (home_on to other to_in other_read))
-          (IsNaming-swapped (slot_count lists) names homes is from to different (in_lists from from_in) (in_lists to to_in)))
+    module _ (from to one other : ℕ) (different : from ≢ to) (from_in : from < slot_count pool) (to_in : to < slot_count pool) (one_read : one ≡ number_at homes from) (other_read : other ≡ number_at homes to) where
+      module _ (left moved first named_lists : List ℕ) (one_home : left ≡ set homes from other) (other_home : moved ≡ set left to one) (one_name : first ≡ set names one to) (other_name : named_lists ≡ set first other from) where
+        names_are : named_lists ≡ set (set names (number_at homes from) to) (number_at homes to) from
+        names_are = other_name ∙ ap (λ ns. set ns other from) (one_name ∙ ap (λ l. set names l to) one_read) ∙ ap (λ l. set (set names (number_at homes from) to) l from) other_read
 
-      pub swap_seen : IsValidLists lists → map (named (set (set names one to) other from)) lists.arcs ≡ map (swapped from to) pool.arcs
-      swap_seen valid =
-          ap (λ x. map (named (set (set names x to) other from)) lists.arcs) (home_on from one from_in one_read)
-          ∙ ap (λ y. map (named (set (set names (number_at homes from) to) y from)) lists.arcs) (home_on to other to_in other_read)
-          ∙ swapped_seen from to different (in_lists from from_in) (in_lists to to_in) valid ∙ ap (λ p. map (swapped from to) p.arcs) view_is
+        homes_are : moved ≡ set (set homes from (number_at homes to)) to (number_at homes from)
+        homes_are = other_home ∙ ap (λ hs. set hs to one) (one_home ∙ ap (set homes from) other_read) ∙ ap (set (set homes from (number_at homes to)) to) one_read
+
+        pub swap_names : IsNaming (slot_count lists) named_lists moved
+        swap_names =
+            subst (λ ns. IsNaming (slot_count lists) ns moved) (sym names_are)
+            (subst (IsNaming (slot_count lists) (set (set names (number_at homes from) to) (number_at homes to) from)) (sym homes_are)
+            (IsNaming-swapped (slot_count lists) names homes is from to different (in_lists from from_in) (in_lists to to_in)))
+
+        pub swap_seen : IsValidLists lists → map (named named_lists) lists.arcs ≡ map (swapped from to) pool.arcs
+        swap_seen valid =
+            ap (λ ns. map (named ns) lists.arcs) names_are
+            ∙ swapped_seen from to different (in_lists from from_in) (in_lists to to_in) valid ∙ ap (λ p. map (swapped from to) p.arcs) view_is

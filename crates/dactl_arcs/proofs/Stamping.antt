@@ -4,7 +4,6 @@ use Rattle.std.specs.List.{All, slice_get, zip}
 use Rattle.std.proofs.lemmas.Bool.{eq-eqb, ne_eqb, le-ltb, cases_eq, cases_Bool, cond-false, cond-true, cond_both, lt-ltb}
 use Rattle.std.proofs.lemmas.Bool.Decides.{nat_tests}
 use Rattle.std.proofs.lemmas.List.{length-map, get_or-map, get_or_read, same_lists}
-use Rattle.std.proofs.Math.Seq.{take-append_seam}
 use Rattle.std.proofs.lemmas.Slice.Zip.{get_or-zip, length-zip}
 use Rattle.std.proofs.lemmas.Option.{get_or_from_slice_get, slice_get-get_or, slice_get_within}
 use Rattle.dactl_arcs.specs.declared.lists.ArcRecord.{ArcRecord}
@@ -134,9 +133,6 @@ changes-push [] (s ∷ stamps) slots arc stamp long = absurd (omega arith)
 changes-push (a ∷ arcs) [] slots arc stamp long = absurd (omega arith)
 changes-push (a ∷ arcs) (s ∷ stamps) slots arc stamp long = ap (λ xs. change_of slots (a, s) ∷ xs) (changes-push arcs stamps slots arc stamp (omega arith))
 
-pub take_seam : (n : ℕ) (xs ys : List ℕ) → n ≡ length xs → take n (xs ++ ys) ≡ xs
-take_seam n xs ys same = ap (λ m. take m (xs ++ ys)) same ∙ take-append_seam xs ys
-
 -- no arc changed after the greatest stamp
 last_change_old : (list newest : ℕ) (arc : ArcStamp) → list ≤ newest → arc.own ≤ newest → last_change list arc ≤ newest
 last_change_old list newest arc list_old arc_old = cond_both (ltb arc.joined list) list arc.own (λ c. c ≤ newest) (λ _. list_old) (λ _. arc_old)
@@ -170,36 +166,32 @@ module _ (lists : Linked) (stamps : List ArcStamp) (slots : List ℕ) (newest ca
       pub target_inside : r.target < length slots
       target_inside = omega (arith, target, valid.within arc below, is.slots_long)
 
-      pub changed_seen : (list own : ℕ) (stamp : ArcStamp) → list ≡ get_or slots r.target list → stamp ≡ get_or stamps arc stamp → own ≡ last_change list stamp → slice_get pool.changed arc ≡ Some own
+      pub changed_seen : (list own : ℕ) (stamp : ArcStamp) → list ≡ get_or slots r.target 0 → stamp ≡ get_or stamps arc stamp → own ≡ last_change list stamp → slice_get pool.changed arc ≡ Some own
       changed_seen list own stamp list_read stamp_read made =
           ap (λ m. slice_get m.changed arc) (sym view_is)
           ∙ slice_get-get_or (changes lists.arcs stamps slots) arc 0 (omega (arith, below, length-changes lists.arcs stamps slots is.arcs_long))
           ∙ ap Some (change_at lists.arcs stamps slots arc 0 is.arcs_long below
           ∙ ap (λ t. last_change (get_or slots t 0) (get_or stamps arc no_stamp)) target
-          ∙ ap (λ l. last_change l (get_or stamps arc no_stamp)) (sym (get_or_read slots r.target list target_inside list_read 0))
+          ∙ ap (λ l. last_change l (get_or stamps arc no_stamp)) (sym list_read)
           ∙ ap (last_change list) (sym (get_or_read stamps arc stamp (omega (arith, below, is.arcs_long)) stamp_read no_stamp))
           ∙ sym made)
 
     -- an arc joins another list
-    module _ (arc from to of_list own joined : ℕ) (stamp : ArcStamp) (leads : IsIn lists from arc) (from_in : from < targets pool) (to_in : to < targets pool) (list_read : of_list ≡ get_or slots from of_list) (stamp_read : stamp ≡ get_or stamps arc stamp) (made : own ≡ last_change of_list stamp) (joined_read : joined ≡ get_or slots to joined) where
+    module _ (arc from to of_list own joined : ℕ) (stamp : ArcStamp) (leads : IsIn lists from arc) (from_in : from < targets pool) (to_in : to < targets pool) (list_read : of_list ≡ get_or slots from 0) (stamp_read : stamp ≡ get_or stamps arc stamp) (made : own ≡ last_change of_list stamp) (joined_read : joined ≡ get_or slots to 0) where
       pub moved_changes : (arcs : List ArcRecord) → arcs ≡ set lists.arcs arc (sent_to to (record_at lists.arcs arc)) → changes arcs (set stamps arc (record { own = own; joined = joined })) slots ≡ pool.changed
       moved_changes arcs moved =
-          let l = get_or_read slots from of_list (slot_inside from from_in) list_read 0 in
           let s = get_or_read stamps arc stamp (omega (arith, leads.0, is.arcs_long)) stamp_read no_stamp in
-          let j = get_or_read slots to joined (slot_inside to to_in) joined_read 0 in
           ap (λ xs. changes xs (set stamps arc (record { own = own; joined = joined })) slots) moved
-          ∙ changes-moved lists.arcs stamps slots arc from to own joined is.arcs_long leads.0 leads.1 (made ∙ ap (λ x. last_change x stamp) l ∙ ap (last_change (get_or slots from 0)) s) j
+          ∙ changes-moved lists.arcs stamps slots arc from to own joined is.arcs_long leads.0 leads.1 (made ∙ ap (λ x. last_change x stamp) list_read ∙ ap (last_change (get_or slots from 0)) s) joined_read
           ∙ ap (λ m. m.changed) view_is
 
     -- two slots change their lists
-    pub swapped_changes : (from to one other : ℕ) (arcs : List ArcRecord) → from ≢ to → from < targets pool → to < targets pool → one ≡ get_or slots from one → other ≡ get_or slots to other
-        → arcs ≡ map (swapped from to) lists.arcs → changes arcs stamps (set (set slots from other) to one) ≡ pool.changed
-    swapped_changes from to one other arcs different from_in to_in one_read other_read moved =
-        let o = get_or_read slots from one (slot_inside from from_in) one_read 0 in
-        let p = get_or_read slots to other (slot_inside to to_in) other_read 0 in
-        ap (λ xs. changes xs stamps (set (set slots from other) to one)) moved
-        ∙ ap (λ x. changes (map (swapped from to) lists.arcs) stamps (set (set slots from x) to one)) p
-        ∙ ap (λ x. changes (map (swapped from to) lists.arcs) stamps (set (set slots from (get_or slots to 0)) to x)) o
+    pub swapped_changes : (from to one other : ℕ) (arcs : List ArcRecord) (left after : List ℕ) → from ≢ to → from < targets pool → to < targets pool → one ≡ get_or slots from 0 → other ≡ get_or slots to 0
+        → arcs ≡ map (swapped from to) lists.arcs → left ≡ set slots from other → after ≡ set left to one → changes arcs stamps after ≡ pool.changed
+    swapped_changes from to one other arcs left after different from_in to_in one_read other_read moved first second =
+        let slots_are : after ≡ set (set slots from (get_or slots to 0)) to (get_or slots from 0) = second ∙ ap (λ s. set s to one) (first ∙ ap (set slots from) other_read) ∙ ap (set (set slots from (get_or slots to 0)) to) one_read in
+        ap (λ xs. changes xs stamps after) moved
+        ∙ ap (changes (map (swapped from to) lists.arcs) stamps) slots_are
         ∙ changes-swapped lists.arcs stamps slots from to is.arcs_long different (slot_inside from from_in) (slot_inside to to_in)
         ∙ ap (λ m. m.changed) view_is
 
@@ -207,11 +199,10 @@ module _ (lists : Linked) (stamps : List ArcStamp) (slots : List ℕ) (newest ca
     cleared_changes slot arcs written =
         ap (λ xs. changes xs stamps slots) written ∙ changes-same lists.arcs stamps slots (cleared slot) is.arcs_long (cleared_target slot) ∙ ap (λ m. m.changed) view_is
 
-    pub pushed_changes : (arc : ArcRecord) (joined : ℕ) (arcs : List ArcRecord) (items : List ArcStamp) → arc.target < targets pool → joined ≡ get_or slots arc.target joined
+    pub pushed_changes : (arc : ArcRecord) (joined : ℕ) (arcs : List ArcRecord) (items : List ArcStamp) → arc.target < targets pool → joined ≡ get_or slots arc.target 0
         → arcs ≡ lists.arcs ++ arc ∷ [] → items ≡ stamps ++ record { own = 0; joined = joined } ∷ [] → changes arcs items slots ≡ pool.changed ++ 0 ∷ []
     pushed_changes arc joined arcs items inside read grown pushed =
-        let j = get_or_read slots arc.target joined (slot_inside arc.target inside) read 0 in
-        let fresh : change_of slots (arc, record { own = 0; joined = joined }) ≡ 0 = ap (λ x. last_change (get_or slots arc.target 0) (record { own = 0; joined = x })) j ∙ just_joined (get_or slots arc.target 0) 0 in
+        let fresh : change_of slots (arc, record { own = 0; joined = joined }) ≡ 0 = ap (λ x. last_change (get_or slots arc.target 0) (record { own = 0; joined = x })) read ∙ just_joined (get_or slots arc.target 0) 0 in
         ap (λ xs. changes xs items slots) grown ∙ ap (λ xs. changes (lists.arcs ++ arc ∷ []) xs slots) pushed
         ∙ changes-push lists.arcs stamps slots arc (record { own = 0; joined = joined }) is.arcs_long
         ∙ ap (λ x. changes lists.arcs stamps slots ++ x ∷ []) fresh ∙ ap (λ m. m.changed ++ 0 ∷ []) view_is

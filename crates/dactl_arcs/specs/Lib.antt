@@ -6,3 +6,4 @@ pub mod Moves
 pub mod Naming
 pub mod Pool
 pub mod Stamps
+pub mod Tables

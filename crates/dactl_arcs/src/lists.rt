@@ -5,6 +5,7 @@ ghost use Rattle.dactl_arcs.specs.Pool.{target_of, rest_of_walk};
 ghost use Rattle.dactl_arcs.specs.Linked.{IsIn, slot_count, list_of, IsSameSize, IsValidLists};
 ghost use Rattle.dactl_arcs.specs.Moves.{record_at, sent_to, idle, cleared};
 
+use crate::link::{Link, LinkTable};
 use std::alloc::{AllocError, Global};
 use std::marker::Model;
 
@@ -23,14 +24,14 @@ pub struct ArcRecord {
 #[derive(Clone, Copy, Drop)]
 struct LinkedArc {
     arc: ArcRecord,
-    next: Option<u32>,
+    next: Link,
 }
 
 /// A list of arcs for each slot.
 #[derive(Drop)]
 pub struct Lists {
     // The first arc of each slot's list.
-    firsts: Vec<Option<u32>>,
+    firsts: LinkTable,
     arcs: Vec<LinkedArc>,
     room: u32,
 }
@@ -45,22 +46,22 @@ impl Model for Lists {
 
     ghost view = { λ l. record {
       arcs = records_of l.arcs.items;
-      into = lists_of l.firsts.items l.arcs.items;
+      into = lists_of l.firsts l.arcs.items;
       room = l.room;
     } };
 
-    ghost invariant = { λ l. IsSound l.firsts.items l.arcs.items l.room (vec_capacity l.arcs) };
+    ghost invariant = { λ l. IsSound l.firsts l.arcs.items l.room (vec_capacity l.arcs) };
 }
 
 impl Lists {
     /// Empty lists, so many of them, with room for so many arcs.
-    pub fn with_room(alloc: Global, slots: usize, arcs: u32) -> Result<Lists, Memory>
+    pub fn with_room(alloc: Global, slots: u32, arcs: u32) -> Result<Lists, Memory>
         ensures arcs { IfOk result (λ lists. lists.arcs ≡ []) }
         ensures slots { IfOk result (λ lists. slot_count lists ≡ slots) }
         ensures room { IfOk result (λ lists. lists.room ≡ arcs) }
     {
         Ok(Lists {
-            firsts: vec![in alloc; None; slots]?,
+            firsts: LinkTable::of_none(alloc, slots)?,
             arcs: Vec::with_capacity(alloc, arcs as usize)?,
             room: arcs,
         })
@@ -96,8 +97,8 @@ impl Lists {
         ensures kept { IsSameSize self.old self.new }
     {
         let number = self.arcs.len() as u32;
-        let next = self.firsts[arc.target as usize];
-        self.firsts[arc.target as usize] = Some(number);
+        let next = self.firsts.get(arc.target);
+        self.firsts.set(arc.target, Link::to(number));
         self.arcs.push_reserved(LinkedArc { arc, next });
     }
 
@@ -109,7 +110,7 @@ impl Lists {
         ensures leads { IfSome result (IsIn self.now slot) }
         ensures valid { IsValidLists self.now }
     {
-        self.firsts[slot as usize]
+        self.firsts.get(slot).arc()
     }
 
     /// The arc after this one in its list.
@@ -121,7 +122,7 @@ impl Lists {
             rest_of_walk (Some arc) walk ≡ arc ∷ rest_of_walk result walk }
         ensures leads { IfSome result (IsIn self.now (target_of self.now.arcs arc)) }
     {
-        self.arcs[arc as usize].next
+        self.arcs[arc as usize].next.arc()
     }
 
     /// Moves the first arc of a list in front of another.
@@ -136,7 +137,7 @@ impl Lists {
         ensures leads { IsIn self.old from arc }
     {
         let LinkedArc { arc: record, next } = self.arcs[arc as usize];
-        let behind = self.firsts[to as usize];
+        let behind = self.firsts.get(to);
         self.arcs[arc as usize] = LinkedArc {
             arc: ArcRecord {
                 target: to,
@@ -144,8 +145,8 @@ impl Lists {
             },
             next: behind,
         };
-        self.firsts[from as usize] = next;
-        self.firsts[to as usize] = Some(arc);
+        self.firsts.set(from, next);
+        self.firsts.set(to, Link::to(arc));
     }
 
     // Clears one flag.

@@ -5,6 +5,8 @@ ghost use Rattle.dactl_arcs.specs.Moves.{moved_to};
 ghost use Rattle.dactl_arcs.specs.Kept.{AreBelow};
 ghost use Rattle.dactl_arcs.specs.Stamps.{AreStamped};
 
+use crate::table::Table;
+
 /// Where the pairs send a number: to the second number of the first pair that begins with it. A number
 /// that no pair begins with stays.
 pub fn moved_number(moves: &[(u32, u32)], number: u32) -> u32
@@ -19,7 +21,7 @@ pub fn moved_number(moves: &[(u32, u32)], number: u32) -> u32
 }
 
 // Gives the stamp to both slots of a number, unless it is sent to itself.
-fn stamp_both(slots: &mut [u32], half: u32, from: u32, to: u32, stamp: u32)
+fn stamp_both(slots: &mut Table, half: u32, from: u32, to: u32, stamp: u32)
     requires below { half + from < length slots.old }
     requires fits { half + from < 2 ^ 32 }
     ensures { slots.new
@@ -28,12 +30,12 @@ fn stamp_both(slots: &mut [u32], half: u32, from: u32, to: u32, stamp: u32)
     if to == from {
         return;
     }
-    slots[from as usize] = stamp;
-    slots[(half + from) as usize] = stamp;
+    slots.set(from, stamp);
+    slots.set(half + from, stamp);
 }
 
 /// Gives the stamp to each slot that the pairs send elsewhere, and to the one that lies `half` behind it.
-pub fn stamp_slots(slots: &mut [u32], moves: &[(u32, u32)], half: u32, stamp: u32)
+pub fn stamp_slots(slots: &mut Table, moves: &[(u32, u32)], half: u32, stamp: u32)
     requires below { AreBelow half moves.now }
     requires halves { half + half ≤ length slots.old }
     requires fits { half + half < 2 ^ 32 }

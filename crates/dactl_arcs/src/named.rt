@@ -5,9 +5,10 @@ ghost use Rattle.std.specs.Prelude.{◌≡◌, ◌≢◌, ◌+◌, ◌<◌, ◌�
 ghost use Rattle.dactl_arcs.specs.Pool.{target_of, rest_of_walk};
 ghost use Rattle.dactl_arcs.specs.Linked.{IsIn, slot_count, list_of, IsSameSize, IsValidLists};
 ghost use Rattle.dactl_arcs.specs.Moves.{cleared, record_at, sent_to};
-ghost use Rattle.dactl_arcs.specs.Naming.{IsCounting, swapped};
+ghost use Rattle.dactl_arcs.specs.Naming.{swapped};
 
 use crate::lists::{ArcRecord, Lists, Memory};
+use crate::table::Table;
 use std::alloc::Global;
 use std::marker::Model;
 
@@ -17,9 +18,9 @@ pub struct NamedLists {
     // The target of each of these arcs is its list.
     lists: Lists,
     // The slot of each list.
-    names: Vec<u32>,
+    names: Table,
     // The list of each slot.
-    homes: Vec<u32>,
+    homes: Table,
 }
 
 impl Model for NamedLists {
@@ -29,20 +30,9 @@ impl Model for NamedLists {
 
     ghost use Rattle.dactl_arcs.specs.Naming.{named_pool, IsNaming};
 
-    ghost view = { λ n. named_pool n.lists n.names.items n.homes.items };
+    ghost view = { λ n. named_pool n.lists n.names n.homes };
 
-    ghost invariant = { λ n. IsNaming (slot_count n.lists) n.names.items n.homes.items };
-}
-
-// The numbers below `count`, in ascending order.
-fn numbers_below(alloc: Global, count: u32) -> Result<Vec<u32>, Memory>
-    ensures { IfOk result (λ all. IsCounting count all.items) }
-{
-    let mut all = Vec::with_capacity(alloc, count as usize)?;
-    for number in 0..count {
-        all.push_reserved(number);
-    }
-    Ok(all)
+    ghost invariant = { λ n. IsNaming (slot_count n.lists) n.names n.homes };
 }
 
 impl NamedLists {
@@ -52,13 +42,10 @@ impl NamedLists {
         ensures slots { IfOk result (λ lists. slot_count lists ≡ slots) }
         ensures room { IfOk result (λ lists. lists.room ≡ arcs) }
     {
-        let names = numbers_below(alloc, slots)?;
-        let homes = Vec::from_slice(alloc, names.as_slice())?;
-        let lists = Lists::with_room(alloc, slots as usize, arcs)?;
         Ok(NamedLists {
-            lists,
-            names,
-            homes,
+            lists: Lists::with_room(alloc, slots, arcs)?,
+            names: Table::of_places(alloc, slots)?,
+            homes: Table::of_places(alloc, slots)?,
         })
     }
 
@@ -89,7 +76,7 @@ impl NamedLists {
         ensures room { self.new.room ≡ self.old.room }
     {
         let _ = self.lists.len();
-        self.lists.clear_waits(self.homes[slot as usize]);
+        self.lists.clear_waits(self.homes.get(slot));
     }
 
     /// The arc of this number.
@@ -100,7 +87,7 @@ impl NamedLists {
     {
         let record = self.lists.arc(arc);
         ArcRecord {
-            target: self.names[record.target as usize],
+            target: self.names.get(record.target),
             ..record
         }
     }
@@ -121,7 +108,7 @@ impl NamedLists {
         ensures leads { IfSome result (IsIn self.now slot) }
         ensures valid { IsValidLists self.now }
     {
-        self.lists.first_into(self.homes[slot as usize])
+        self.lists.first_into(self.homes.get(slot))
     }
 
     /// Whether one slot's list is at most as long as another's. It takes time for the shorter of them.
@@ -131,7 +118,7 @@ impl NamedLists {
         ensures { result ≡ nat_le (length (list_of self.now one)) (length (list_of self.now other)) }
     {
         self.lists
-            .is_at_most_as_long(self.homes[one as usize], self.homes[other as usize])
+            .is_at_most_as_long(self.homes.get(one), self.homes.get(other))
     }
 
     /// Adds the arc in front of the list of its target.
@@ -142,7 +129,7 @@ impl NamedLists {
         ensures kept { IsSameSize self.old self.new }
     {
         self.lists.push(ArcRecord {
-            target: self.homes[arc.target as usize],
+            target: self.homes.get(arc.target),
             ..arc
         });
     }
@@ -159,7 +146,7 @@ impl NamedLists {
         ensures leads { IsIn self.old from arc }
     {
         self.lists
-            .move_first(arc, self.homes[from as usize], self.homes[to as usize]);
+            .move_first(arc, self.homes.get(from), self.homes.get(to));
     }
 
     /// Gives each of two slots the other's list, in constant time.
@@ -171,11 +158,11 @@ impl NamedLists {
         ensures kept { IsSameSize self.old self.new }
     {
         let _ = self.lists.len();
-        let one = self.homes[from as usize];
-        let other = self.homes[to as usize];
-        self.homes[from as usize] = other;
-        self.homes[to as usize] = one;
-        self.names[one as usize] = to;
-        self.names[other as usize] = from;
+        let one = self.homes.get(from);
+        let other = self.homes.get(to);
+        self.homes.set(from, other);
+        self.homes.set(to, one);
+        self.names.set(one, to);
+        self.names.set(other, from);
     }
 }

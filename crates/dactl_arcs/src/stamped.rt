@@ -13,6 +13,7 @@ ghost use Rattle.dactl_arcs.specs.Stamps.{IsValidStamped, changed_by, last_chang
 use crate::lists::{ArcRecord, Memory};
 use crate::moves::stamp_slots;
 use crate::named::NamedLists;
+use crate::table::Table;
 use std::alloc::Global;
 use std::marker::Model;
 
@@ -31,7 +32,7 @@ pub struct StampedLists {
     // By the arc's number.
     stamps: Vec<ArcStamp>,
     // The stamp of each slot's list.
-    slots: Vec<u32>,
+    slots: Table,
     // The greatest stamp that was given.
     newest: u32,
 }
@@ -47,12 +48,12 @@ impl Model for StampedLists {
       arcs = s.lists.arcs;
       into = s.lists.into;
       room = s.lists.room;
-      changed = changes s.lists.arcs s.stamps.items s.slots.items;
+      changed = changes s.lists.arcs s.stamps.items s.slots;
       newest = s.newest;
     } };
 
     ghost invariant = { λ s.
-        IsStamped s.lists s.stamps.items s.slots.items s.newest (vec_capacity s.stamps) };
+        IsStamped s.lists s.stamps.items s.slots s.newest (vec_capacity s.stamps) };
 }
 
 // The last change of an arc whose list has this stamp.
@@ -74,7 +75,7 @@ impl StampedLists {
         Ok(StampedLists {
             lists: NamedLists::with_room(alloc, slots, arcs)?,
             stamps: Vec::with_capacity(alloc, arcs as usize)?,
-            slots: vec![in alloc; 0; slots as usize]?,
+            slots: Table::of_zeros(alloc, slots)?,
             newest: 0,
         })
     }
@@ -122,7 +123,7 @@ impl StampedLists {
         ensures changed { self.new.changed ≡ self.old.changed ++ 0 ∷ [] }
         ensures newest { self.new.newest ≡ self.old.newest }
     {
-        let joined = self.slots[arc.target as usize];
+        let joined = self.slots.get(arc.target);
         self.lists.push(arc);
         self.stamps.push_reserved(ArcStamp { own: 0, joined });
     }
@@ -146,7 +147,7 @@ impl StampedLists {
         ensures changed { slice_get self.now.changed arc ≡ Some result.1 }
     {
         let record = self.lists.arc(arc);
-        let list = self.slots[record.target as usize];
+        let list = self.slots.get(record.target);
         (record, last_change(list, self.stamps[arc as usize]))
     }
 
@@ -174,8 +175,8 @@ impl StampedLists {
         ensures newest { self.new.newest ≡ self.old.newest }
     {
         self.lists.move_first(arc, from, to);
-        let own = last_change(self.slots[from as usize], self.stamps[arc as usize]);
-        let joined = self.slots[to as usize];
+        let own = last_change(self.slots.get(from), self.stamps[arc as usize]);
+        let joined = self.slots.get(to);
         self.stamps[arc as usize] = ArcStamp { own, joined };
     }
 
@@ -190,9 +191,9 @@ impl StampedLists {
         ensures newest { self.new.newest ≡ self.old.newest }
     {
         self.lists.swap(from, to);
-        let one = self.slots[from as usize];
-        self.slots[from as usize] = self.slots[to as usize];
-        self.slots[to as usize] = one;
+        let one = self.slots.get(from);
+        self.slots.set(from, self.slots.get(to));
+        self.slots.set(to, one);
     }
 
     // Moves all arcs of a slot to another, one by one.
