@@ -62,7 +62,8 @@ pub fn fire(
     requires matching { Matches program.now store.old.graph node rule bindings.now }
     requires latest { IsLatest entry store.old }
     requires room { store.old.room.nodes ≤ woken.old.room }
-    ensures ok { OnOk result (HasFired program.now node rule entry store.old store.new woken.new.list) }
+    ensures ok { OnOk result
+        (HasFired program.now node rule entry store.old store.new woken.new.list) }
     ensures err { IfErr result (IsFull program.now rule store.old store.new woken.new.list) }
     ensures list_room { woken.new.room ≡ woken.old.room }
 {

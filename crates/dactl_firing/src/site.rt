@@ -8,7 +8,8 @@ ghost use Rattle.dactl_model.specs.Matching.{bound_node, FitsRange, delta_label,
 ghost use Rattle.dactl_store.specs.Held.{IsValid, left_in};
 ghost use Rattle.dactl_store.specs.Redirecting.{AreNodes, sent, redirected, IsVersioned, IsLatest};
 ghost use Rattle.dactl_store.specs.Start.{Fits};
-ghost use Rattle.dactl_firing.specs.Site.{IsNamedLeft, IsNamedMove, pair_of, pairs_of, IsSiteIn, IsSettled, IsWrittenFor, IsMade};
+ghost use Rattle.dactl_firing.specs.Site.{IsNamedLeft, IsNamedMove, pair_of, pairs_of, IsSiteIn};
+ghost use Rattle.dactl_firing.specs.Site.{IsSettled, IsWrittenFor, IsMade};
 ghost use Rattle.dactl_firing.specs.Body.{CanMake};
 
 use crate::suspending::settled_mark;
@@ -27,6 +28,16 @@ pub struct Site<'a> {
     pub node: NodeId,
     pub bindings: &'a [NodeId],
     pub entry: u32,
+}
+
+// The parts of a written body: the new nodes, the redirections, the variables whose nodes are woken, and
+// for how many notifications the node is to wait again, or 0.
+#[derive(Clone, Copy)]
+struct WrittenBody<'a> {
+    fresh: &'a [FreshNode],
+    moves: &'a [Move],
+    wakes: &'a [u8],
+    suspend: u8,
 }
 
 impl Site<'_> {
@@ -54,7 +65,8 @@ impl Site<'_> {
     fn pairs(&self, first: u32, moves: &[Move]) -> [(NodeId, NodeId); 65]
         requires few { length moves.now ≤ 65 }
         requires named { All (IsNamedMove first self.now.bindings.now) moves.now }
-        ensures { take (length moves.now) result ≡ pairs_of first self.now.node self.now.bindings.now moves.now }
+        ensures { take (length moves.now) result ≡
+            pairs_of first self.now.node self.now.bindings.now moves.now }
     {
         let nowhere = NodeId { number: 0 };
         let mut pairs = [(nowhere, nowhere); 65];
@@ -68,9 +80,12 @@ impl Site<'_> {
     fn redirect(&self, store: &mut Store, first: u32, moves: &[Move])
         requires few { length moves.now ≤ 65 }
         requires named { All (IsNamedMove first self.now.bindings.now) moves.now }
-        requires nodes { AreNodes store.old.room.nodes (pairs_of first self.now.node self.now.bindings.now moves.now) }
+        requires nodes { AreNodes store.old.room.nodes
+            (pairs_of first self.now.node self.now.bindings.now moves.now) }
         requires latest { IsLatest self.now.entry store.old }
-        ensures graph { store.new.graph ≡ redirected (sent (pairs_of first self.now.node self.now.bindings.now moves.now)) store.old.graph }
+        ensures graph { store.new.graph ≡ redirected
+            (sent (pairs_of first self.now.node self.now.bindings.now moves.now))
+            store.old.graph }
         ensures versions { IsVersioned self.now.entry store.old store.new }
         ensures room { store.new.room ≡ store.old.room }
         ensures newest { store.new.newest ≡ self.now.entry }
@@ -89,7 +104,8 @@ impl Site<'_> {
         requires site { IsSiteIn self.now store.old.graph }
         requires wakes { All (λ v. v < length self.now.bindings.now) wakes.now }
         requires room { length store.old.graph.nodes ≤ woken.old.room }
-        ensures { IsSettled self.now.node self.now.bindings.now wakes.now suspend store.old woken.old store.new woken.new }
+        ensures { IsSettled self.now.node self.now.bindings.now wakes.now suspend
+            store.old woken.old store.new woken.new }
     {
         woken.clear();
         let mark = settled_mark(store, self.node, suspend);
@@ -100,23 +116,27 @@ impl Site<'_> {
     }
 
     // Makes a written body.
-    fn make_written(
-        &self,
-        store: &mut Store,
-        fresh: &[FreshNode],
-        moves: &[Move],
-        wakes: &[u8],
-        suspend: u8,
-        woken: &mut Woken,
-    )
+    fn make_written(&self, store: &mut Store, body: WrittenBody<'_>, woken: &mut Woken)
         requires valid { IsValid store.old }
         requires site { IsSiteIn self.now store.old.graph }
-        requires body { IsWrittenFor (length self.now.bindings.now) fresh.now moves.now wakes.now }
+        requires body { IsWrittenFor (length self.now.bindings.now)
+            body.fresh.now body.moves.now body.wakes.now }
         requires latest { IsLatest self.now.entry store.old }
-        requires fits { Fits (needed_by (Written fresh.now moves.now wakes.now suspend)) (left_in store.old) }
+        requires fits { Fits
+            (needed_by (Written body.fresh.now body.moves.now body.wakes.now body.suspend))
+            (left_in store.old) }
         requires room { store.old.room.nodes ≤ woken.old.room }
-        ensures { IsMade self.now.node self.now.entry (rewritten store.old.graph self.now.node self.now.bindings.now fresh.now moves.now wakes.now suspend) store.old woken.old store.new woken.new }
+        ensures { IsMade self.now.node self.now.entry
+            (rewritten store.old.graph self.now.node self.now.bindings.now
+            body.entry.fresh.now body.entry.moves.now body.entry.wakes.now body.entry.suspend)
+            store.old woken.old store.new woken.new }
     {
+        let WrittenBody {
+            fresh,
+            moves,
+            wakes,
+            suspend,
+        } = body;
         self.settle(store, wakes, suspend, woken);
         let first = store.next_number();
         store.append_contractum(self.bindings, fresh, self.entry);
@@ -154,7 +174,9 @@ impl Site<'_> {
         requires latest { IsLatest self.now.entry store.old }
         requires fits { Fits (needed_by (Delta op)) (left_in store.old) }
         requires room { store.old.room.nodes ≤ woken.old.room }
-        ensures { IsMade self.now.node self.now.entry (fired store.old.graph self.now.node self.now.bindings.now (Delta op)) store.old woken.old store.new woken.new }
+        ensures { IsMade self.now.node self.now.entry
+            (fired store.old.graph self.now.node self.now.bindings.now (Delta op))
+            store.old woken.old store.new woken.new }
     {
         let label = self.computed(store, op);
         self.settle(store, &[], 0, woken);
@@ -171,7 +193,9 @@ impl Site<'_> {
         requires latest { IsLatest self.now.entry store.old }
         requires fits { Fits (needed_by body.now) (left_in store.old) }
         requires room { store.old.room.nodes ≤ woken.old.room }
-        ensures { IsMade self.now.node self.now.entry (fired store.old.graph self.now.node self.now.bindings.now body.now) store.old woken.old store.new woken.new }
+        ensures { IsMade self.now.node self.now.entry
+            (fired store.old.graph self.now.node self.now.bindings.now body.now)
+            store.old woken.old store.new woken.new }
     {
         match body {
             Body::Written {
@@ -179,14 +203,15 @@ impl Site<'_> {
                 moves,
                 wakes,
                 suspend,
-            } => self.make_written(
-                store,
-                fresh.as_slice(),
-                moves.as_slice(),
-                wakes.as_slice(),
-                *suspend,
-                woken,
-            ),
+            } => {
+                let parts = WrittenBody {
+                    fresh: fresh.as_slice(),
+                    moves: moves.as_slice(),
+                    wakes: wakes.as_slice(),
+                    suspend: *suspend,
+                };
+                self.make_written(store, parts, woken);
+            }
             Body::Delta(op) => self.make_result(store, *op, woken),
         }
     }

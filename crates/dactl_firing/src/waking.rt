@@ -1,9 +1,11 @@
 //! Wakes: idle nodes that become active, and are listed then.
 
-ghost use Rattle.std.specs.Prelude.{◌≡◌, ◌+◌, ◌<◌, ◌≤◌, ◌^◌, ◌++◌, [], ◌∷◌, All, IsTrue, length, slice_get, if◌then◌else◌};
+ghost use Rattle.std.specs.Prelude.{◌≡◌, ◌+◌, ◌<◌, ◌≤◌, ◌^◌, ◌++◌, [], ◌∷◌, All, IsTrue, length};
+ghost use Rattle.std.specs.Prelude.{slice_get, if◌then◌else◌};
 ghost use Rattle.dactl_model.specs.Graphs.{HasNode};
 ghost use Rattle.dactl_model.specs.Acts.{marks_active};
-ghost use Rattle.dactl_firing.specs.Waking.{idle_in, Wakes, IsWokenList, woken_nodes, with_nodes, new_acts};
+ghost use Rattle.dactl_firing.specs.Waking.{idle_in, Wakes, IsWokenList, woken_nodes, with_nodes};
+ghost use Rattle.dactl_firing.specs.Waking.{new_acts};
 
 use dactl_model::footprint::Woken;
 use dactl_model::graph::{Mark, NodeId};
@@ -21,7 +23,8 @@ fn is_idle(store: &Store, node: NodeId) -> bool
 // Wakes a node.
 fn wake(store: &mut Store, node: NodeId, woken: &mut Woken)
     requires node { HasNode store.old.graph node }
-    requires room { IsTrue (idle_in (slice_get store.old.graph.nodes node.number)) → length woken.old.list < woken.old.room }
+    requires room { IsTrue (idle_in (slice_get store.old.graph.nodes node.number)) →
+        length woken.old.list < woken.old.room }
     ensures { Wakes node store.old woken.old store.new woken.new }
 {
     if is_idle(store, node) {
@@ -36,7 +39,8 @@ pub fn wake_all(store: &mut Store, bindings: &[NodeId], wakes: &[u8], woken: &mu
     requires wakes { All (λ v. v < length bindings.now) wakes.now }
     requires room { length store.old.graph.nodes ≤ woken.old.room }
     requires empty { woken.old.list ≡ [] }
-    ensures graph { store.new.graph ≡ with_nodes store.old.graph (woken_nodes bindings.now wakes.now 0 store.old.graph.nodes) }
+    ensures graph { store.new.graph ≡ with_nodes store.old.graph
+        (woken_nodes bindings.now wakes.now 0 store.old.graph.nodes) }
     ensures versions { store.new.versions ≡ store.old.versions }
     ensures room { store.new.room ≡ store.old.room }
     ensures newest { store.new.newest ≡ store.old.newest }
@@ -51,7 +55,10 @@ pub fn wake_all(store: &mut Store, bindings: &[NodeId], wakes: &[u8], woken: &mu
 /// Lists a node if it is active.
 pub fn list_active(number: u32, mark: Mark, woken: &mut Woken)
     requires { IsTrue (marks_active mark) → length woken.old.list < woken.old.room }
-    ensures list { woken.new.list ≡ (if marks_active mark then woken.old.list ++ record { number = number } ∷ [] else woken.old.list) }
+    ensures list { woken.new.list ≡
+        (if marks_active mark
+        then woken.old.list ++ record { number = number } ∷ []
+        else woken.old.list) }
     ensures room { woken.new.room ≡ woken.old.room }
 {
     if let Mark::Active = mark {

@@ -51,7 +51,8 @@ fn both_hold(store: &Store, bound: &[NodeId], patterns: &[Pat], node: NodeId) ->
     requires valid { IsValid store.now }
     requires node { HasNode store.now.graph node }
     ensures { let tests = map (sat store.now.graph bound.now) patterns.now in
-        IsTrue result → IsSomeAnd (node_at store.now.graph node) (λ n. IsTrue (all_hold tests n.arcs)) }
+        IsTrue result →
+        IsSomeAnd (node_at store.now.graph node) (λ n. IsTrue (all_hold tests n.arcs)) }
 {
     if patterns.len() != 2 || store.arity(node) != 2 {
         return false;

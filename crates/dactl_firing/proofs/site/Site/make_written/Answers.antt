@@ -19,25 +19,25 @@ append_contractum-requires c =
     let h = c.args.self.now.bindings.now in
     let g : Graph = c.args.store.now.graph in
     let first = c.settle.new.store in
-    can_append c.args.store.now first c.requires.body.0 (length h) h c.args.fresh.now refl c.requires.valid c.requires.site.bindings c.requires.body.1.news c.requires.fits.nodes c.requires.fits.arcs
-    (settled_count g first.graph n h c.args.wakes.now c.args.suspend c.settle.ensures.graph) (settled_arcs g first.graph n h c.args.wakes.now c.args.suspend c.settle.ensures.graph) c.settle.ensures.room
+    can_append c.args.store.now first c.requires.body.0 (length h) h c.args.body.fresh.now refl c.requires.valid c.requires.site.bindings c.requires.body.1.news c.requires.fits.nodes c.requires.fits.arcs
+    (settled_count g first.graph n h c.args.body.wakes.now c.args.body.suspend c.settle.ensures.graph) (settled_arcs g first.graph n h c.args.body.wakes.now c.args.body.suspend c.settle.ensures.graph) c.settle.ensures.room
 
 pub list_new-requires-clause-room : goal.list_new-requires-clause-room
 list_new-requires-clause-room c =
-    let count = settled_count c.args.store.now.graph c.settle.new.store.graph c.args.self.now.node c.args.self.now.bindings.now c.args.wakes.now c.args.suspend c.settle.ensures.graph in
+    let count = settled_count c.args.store.now.graph c.settle.new.store.graph c.args.self.now.node c.args.self.now.bindings.now c.args.body.wakes.now c.args.body.suspend c.settle.ensures.graph in
     omega (arith, count, ap length c.settle.ensures.list, acts_few c.args.store.now.graph c.args.self.now.node 0 c.settle.new.store.graph.nodes, c.settle.ensures.list_room, c.requires.room, c.requires.fits.nodes, c.requires.valid.nodes)
 
 pub redirect-requires-clause-few : goal.redirect-requires-clause-few
 redirect-requires-clause-few c =
-    moves_few (length c.args.self.now.bindings.now) c.requires.site.few c.args.moves.now (λ k d below. (c.requires.body.1.move_ends k d below).0) c.requires.body.1.once
+    moves_few (length c.args.self.now.bindings.now) c.requires.site.few c.args.body.moves.now (λ k d below. (c.requires.body.1.move_ends k d below).0) c.requires.body.1.once
 
 pub redirect-requires-clause-nodes : goal.redirect-requires-clause-nodes
 redirect-requires-clause-nodes c =
     let h = c.args.self.now.bindings.now in
-    let count = settled_count c.args.store.now.graph c.settle.new.store.graph c.args.self.now.node h c.args.wakes.now c.args.suspend c.settle.ensures.graph in
+    let count = settled_count c.args.store.now.graph c.settle.new.store.graph c.args.self.now.node h c.args.body.wakes.now c.args.body.suspend c.settle.ensures.graph in
     let room : c.append_contractum.new.self.room ≡ c.args.store.now.room = c.append_contractum.ensures.room ∙ c.settle.ensures.room in
     let nodes : c.append_contractum.new.self.room.nodes ≡ c.args.store.now.room.nodes = ap (λ r. r.nodes) room in
-    pairs_below c.append_contractum.new.self.room.nodes c.next_number-first.result (length c.args.fresh.now) c.args.self.now.node h c.args.moves.now
+    pairs_below c.append_contractum.new.self.room.nodes c.next_number-first.result (length c.args.body.fresh.now) c.args.self.now.node h c.args.body.moves.now
     (omega (arith, nodes, c.requires.site.node, c.requires.valid.nodes))
     (λ k d below. let there = c.requires.site.bindings k d below in omega (arith, nodes, there, c.requires.valid.nodes))
     (omega (arith, nodes, count, c.next_number-first.ensures.number, c.requires.fits.nodes, c.requires.valid.nodes))
@@ -45,9 +45,9 @@ redirect-requires-clause-nodes c =
 
 pub redirect-requires-clause-latest : goal.redirect-requires-clause-latest
 redirect-requires-clause-latest c =
-    latest_grown c.args.store.now c.append_contractum.new.self c.args.self.now.entry c.args.fresh.now c.requires.latest
+    latest_grown c.args.store.now c.append_contractum.new.self c.args.self.now.entry c.args.body.fresh.now c.requires.latest
     (c.append_contractum.ensures.newest ∙ c.settle.ensures.newest)
-    (c.append_contractum.ensures.versions ∙ ap (λ vs. vs ++ map (λ _. c.args.self.now.entry) c.args.fresh.now) c.settle.ensures.versions)
+    (c.append_contractum.ensures.versions ∙ ap (λ vs. vs ++ map (λ _. c.args.self.now.entry) c.args.body.fresh.now) c.settle.ensures.versions)
 
 pub returns : goal.returns
 returns c =
@@ -55,10 +55,10 @@ returns c =
     let g : Graph = old.graph in
     let n = c.args.self.now.node in
     let h = c.args.self.now.bindings.now in
-    let fresh = c.args.fresh.now in
-    let moves = c.args.moves.now in
-    let wakes = c.args.wakes.now in
-    let suspend = c.args.suspend in
+    let fresh = c.args.body.fresh.now in
+    let moves = c.args.body.moves.now in
+    let wakes = c.args.body.wakes.now in
+    let suspend = c.args.body.suspend in
     let first = c.settle.new.store in
     let second = c.append_contractum.new.self in
     let third = c.redirect.new.store in
