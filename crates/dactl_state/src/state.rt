@@ -1,6 +1,7 @@
 //! A state whose commits check versions.
 
-ghost use Rattle.std.specs.Prelude.{◌≡◌, ◌+◌, ◌<◌, ◌≤◌, [], All, IfOk, IfErr, IfSome, OnOk, MatchOption, MatchBool, None, Some, length};
+ghost use Rattle.std.specs.Prelude.{◌≡◌, ◌+◌, ◌<◌, ◌≤◌, [], All, IfOk, IfErr, IfSome, OnOk};
+ghost use Rattle.std.specs.Prelude.{MatchOption, MatchBool, None, Some, length};
 ghost use Rattle.dactl_active.specs.Ring.{turned};
 ghost use Rattle.dactl_model.specs.Graphs.{HasNode};
 ghost use Rattle.dactl_model.specs.declared.graph.Event.TheVariants.{Fire, Note};
@@ -151,13 +152,15 @@ fn node_of(event: Event) -> NodeId
 }
 
 impl State {
-    ghost use Rattle.dactl_state.specs.Runs.{IsCourse, IsFirst, EndOf, Commits, Refuses, IsCurrent, IsStepped, TellsRest, room_of};
+    ghost use Rattle.dactl_state.specs.Runs.{IsCourse, IsFirst, EndOf, Commits, Refuses, IsCurrent};
+    ghost use Rattle.dactl_state.specs.Runs.{IsStepped, TellsRest, room_of};
 
     /// A state before its first entry. It takes all the memory that it will ever have.
     ///
     /// # Errors
     /// `Small` where the start has more nodes or more arcs than the limits allow, with both counts; `Memory`
-    /// where it has not, and there was not the memory. The program is handed back.
+    /// where it has not, and there was not the memory, or the limits allow more nodes than a store can have
+    /// room for. The program is handed back.
     pub fn begin(alloc: Global, program: Program, limits: Limits) -> Result<State, NotBegun>
         requires { IsValid program }
         ensures ok { IfOk result (λ s. IsFirst program limits s × IsCourse s) }
@@ -215,7 +218,9 @@ impl State {
     /// A node that is active, if there is one, whether the run has ended or not. Each active node has its
     /// turn.
     pub fn next_active(&mut self) -> Option<NodeId>
-        ensures active { MatchOption result (IsPassive self.old.held.graph) (IsActive self.old.held.graph) }
+        ensures active { MatchOption result
+            (IsPassive self.old.held.graph)
+            (IsActive self.old.held.graph) }
         ensures turned { self.new ≡ record self.old {
           held = record self.old.held { active = turned self.old.held.active };
         } }
@@ -241,7 +246,8 @@ impl State {
         ensures store { result.store ≡ self.held }
         ensures journal { result.journal.items ≡ self.journal }
         ensures end { EndOf self result.end }
-        ensures ends { IfSome result.end (Ends self.program self.limits self.journal self.held.graph) }
+        ensures ends { IfSome result.end
+            (Ends self.program self.limits self.journal self.held.graph) }
         ensures course { IsCourse self }
     {
         let end = end_by(&self.store, self.done, self.limits.budget, self.full);
@@ -295,9 +301,11 @@ impl State {
         woken: &mut Woken,
     ) -> Result<(), Full>
         requires free { EndOf self.old None }
-        requires may { MayHappen self.old.program self.old.held.graph bindings.now (Fire node rule) }
+        requires may { MayHappen self.old.program self.old.held.graph
+            bindings.now (Fire node rule) }
         requires room { self.old.limits.nodes ≤ woken.old.room }
-        ensures ok { OnOk result (IsStepped self.old self.new (Fire node rule) worker woken.new.list) }
+        ensures ok { OnOk result
+            (IsStepped self.old self.new (Fire node rule) worker woken.new.list) }
         ensures full { IfErr result (λ f.
             IsFull self.old.program self.old.limits self.old.held.graph node rule f.needed f.left) }
         ensures kept { IfErr result (λ f.
@@ -360,7 +368,9 @@ impl State {
             attempt.now.footprint.readings
             attempt.now.footprint.bindings
             attempt.now.event }
-        requires shown { All (IsShown self.old.program self.old.journal) attempt.now.footprint.readings }
+        requires shown { All
+            (IsShown self.old.program self.old.journal)
+            attempt.now.footprint.readings }
         requires room { self.old.limits.nodes ≤ woken.old.room }
         ensures commits { Commits
             self.old

@@ -88,7 +88,8 @@ fn fires(
     requires room { state.old.limits.nodes ≤ woken.old.room }
     ensures program { state.new.program ≡ program.now }
     ensures shown { (r : Reading) →
-        IsShown state.old.program state.old.journal r → IsShown state.new.program state.new.journal r }
+        IsShown state.old.program state.old.journal r →
+        IsShown state.new.program state.new.journal r }
     ensures room { state.new.limits.nodes ≤ woken.new.room }
 {
     if !shows_fire(program, &reading, 5) {
@@ -115,7 +116,8 @@ fn notes(
     requires room { state.old.limits.nodes ≤ woken.old.room }
     ensures program { state.new.program ≡ program.now }
     ensures shown { (r : Reading) →
-        IsShown state.old.program state.old.journal r → IsShown state.new.program state.new.journal r }
+        IsShown state.old.program state.old.journal r →
+        IsShown state.new.program state.new.journal r }
     ensures room { state.new.limits.nodes ≤ woken.new.room }
 {
     if !shows_note(program, &reading) {
