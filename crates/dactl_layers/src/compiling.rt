@@ -14,7 +14,7 @@ use std::alloc::Global;
 /// The program of a text of modules, or its first fault.
 pub fn compile(alloc: Global, text: &[u8]) -> Result<Program, TextFault>
     requires { length text.now ≤ 1048576 }
-    ensures valid { IfOk result IsValid }
+    ensures { IfOk result IsValid }
 {
     let found = tokens(alloc, text)?;
     let tree = parse(alloc, text, found.as_slice())?;
