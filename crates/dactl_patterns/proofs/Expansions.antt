@@ -1,5 +1,5 @@
 -- The expansion of a pattern and its nodes, by the layer at the pattern's top.
-use Rattle.std.proofs.Common.{◌≡◌, ℕ, ◌+◌, ◌≤◌, List, [], ◌∷◌, map, length, Option, Some, None, refl, sym, ap, ◌∙◌, subst, arith}
+use Rattle.std.proofs.Common.{◌≡◌, ℕ, ◌+◌, ◌≤◌, List, [], ◌∷◌, map, length, Option, Some, None, refl, sym, ap, ◌∙◌, arith}
 use Rattle.std.specs.Prelude.{sum_by}
 use Rattle.std.proofs.lemmas.List.Sums.{sum_by-cons, sum-map}
 use Rattle.dactl_model.specs.declared.program.Pat.{Pat}
@@ -10,11 +10,13 @@ use Rattle.dactl_meaning.specs.declared.tree.Name.{Name}
 use Rattle.dactl_meaning.specs.declared.tree.Sign.{Sign}
 use Rattle.dactl_meaning.specs.declared.tree.Sign.TheVariants as signs
 use Rattle.dactl_meaning.specs.declared.tree.PatternTree.{PatternTree}
-use Rattle.dactl_meaning.specs.declared.tree.PatternTree.TheVariants.{rolls-Any, rolls-Int, rolls-Char, rolls-Integer, rolls-Letter, rolls-Sym, rolls-Variable, rolls-Binder, rolls-Chain}
+use Rattle.dactl_meaning.specs.declared.tree.PatternTree.TheOpen.{PatternTree-F}
+use Rattle.dactl_meaning.specs.declared.tree.PatternTree.TheViews.{roll-PatternTree}
+use Rattle.dactl_meaning.specs.declared.tree.PatternTree.TheFolds.{map-PatternTree, fold-roll-PatternTree}
 use Rattle.dactl_meaning.specs.declared.tree.PatternTree.TheVariants as p
 use Rattle.dactl_meaning.specs.Sight.{Seen, SeenSymbol, SeenPattern}
 use Rattle.dactl_meaning.specs.Expansion.{at_name, at_variable, join, chain, expansion_level, expansion_by, pattern_nodes, pattern_nodes_level}
-use Rattle.dactl_patterns.proofs.Trees.{fold_any, fold_int, fold_char, fold_integer, fold_letter, fold_symbol, fold_variable, fold_binder, fold_chain}
+use Rattle.dactl_patterns.proofs.Trees.{fold_symbol, fold_binder, fold_chain}
 use Rattle.dactl_meaning.proofs.Induction.{Each, EachLink, pattern_induction}
 
 -- ---- expansions
@@ -26,9 +28,6 @@ module _ (look : List ℕ → Option Seen) (named : ℕ → ℕ → Pat) (variab
   pub expands_symbol : (name : Name) (args : List PatternTree) → expand (p.Sym name args) ≡ at_name named (look name.text) (map expand args)
   expands_symbol name args = fold_symbol (expansion_level look named variables) name args
 
-  pub expands_variable : (name : Name) → expand (p.Variable name) ≡ at_variable variables name.text (roll-Pat Pat-F.Any)
-  expands_variable name = fold_variable (expansion_level look named variables) name
-
   pub expands_binder : (name : Name) (inner : PatternTree) → expand (p.Binder name inner) ≡ at_variable variables name.text (expand inner)
   expands_binder name inner = fold_binder (expansion_level look named variables) name inner
 
@@ -36,10 +35,6 @@ module _ (look : List ℕ → Option Seen) (named : ℕ → ℕ → Pat) (variab
   expands_chain first rest = fold_chain (expansion_level look named variables) first rest
 
 -- ---- nodes
-
-sum_by-map : {A B : Type 0} (f : B → ℕ) (g : A → B) (xs : List A) → sum_by f (map g xs) ≡ sum_by (λ x. f (g x)) xs
-sum_by-map f g [] = refl
-sum_by-map f g (x ∷ xs) = sum_by-cons f (g x) (map g xs) ∙ ap (λ n. f (g x) + n) (sum_by-map f g xs) ∙ sym (sum_by-cons (λ x. f (g x)) x xs)
 
 pub nodes_joined : (sign : Sign) (a b : Pat) → pattern_nodes (join sign a b) ≡ 1 + (pattern_nodes a + pattern_nodes b)
 nodes_joined signs.Plus a b = fold-roll-Pat ℕ pattern_nodes_level (Pat-F.Union a b)
@@ -57,10 +52,6 @@ nodes_symbol f ps = fold-roll-Pat ℕ pattern_nodes_level (Pat-F.Sym f ps) ∙ a
 pub nodes_bound : (variables : Option (List (List ℕ))) (x : List ℕ) (a : Pat) → pattern_nodes (at_variable variables x a) ≡ pattern_nodes a
 nodes_bound None x a = refl
 nodes_bound (Some variables) x a = fold-roll-Pat ℕ pattern_nodes_level (Pat-F.Bind _ a)
-
--- the nodes of a symbol over the expansions of trees
-pub nodes_over : (of : PatternTree → Pat) (f : ℕ) (trees : List PatternTree) → pattern_nodes (roll-Pat (Pat-F.Sym f (map of trees))) ≡ 1 + sum_by (λ t. pattern_nodes (of t)) trees
-nodes_over of f trees = nodes_symbol f (map of trees) ∙ ap (λ n. 1 + n) (sum_by-map pattern_nodes of trees)
 
 -- a chain has the nodes of its first two patterns at least, and one for their sign
 pub chain_over : (a : Pat) (l : Sign × Pat) (rest : List (Sign × Pat)) → 1 + (pattern_nodes a + pattern_nodes l.1) ≤ pattern_nodes (chain a (l ∷ rest))
@@ -96,19 +87,19 @@ module _ (look : List ℕ → Option Seen) (named : ℕ → ℕ → Pat) (variab
   same_links a b (l ∷ rest) same all =
       same_links (join l.0 a (with_them l.1)) (join l.0 b (without l.1)) rest (omega (arith, nodes_joined l.0 a (with_them l.1), nodes_joined l.0 b (without l.1), same, all.0)) all.1
 
+  by_level : (y : PatternTree-F PatternTree) → pattern_nodes (expansion_level look named (Some variables) (map-PatternTree PatternTree Pat with_them y)) ≡ pattern_nodes (expansion_level look named None (map-PatternTree PatternTree Pat without y)) → SameNodes (roll-PatternTree y)
+  by_level y same =
+      ap pattern_nodes (fold-roll-PatternTree Pat (expansion_level look named (Some variables)) y) ∙ same ∙ sym (ap pattern_nodes (fold-roll-PatternTree Pat (expansion_level look named None) y))
+
   pub same_nodes : (t : PatternTree) → SameNodes t
   same_nodes = pattern_induction SameNodes (record {
-    any = subst SameNodes (sym rolls-Any) (ap pattern_nodes (fold_any (expansion_level look named (Some variables)) ∙ sym (fold_any (expansion_level look named None))));
-    int = subst SameNodes (sym rolls-Int) (ap pattern_nodes (fold_int (expansion_level look named (Some variables)) ∙ sym (fold_int (expansion_level look named None))));
-    char = subst SameNodes (sym rolls-Char) (ap pattern_nodes (fold_char (expansion_level look named (Some variables)) ∙ sym (fold_char (expansion_level look named None))));
-    integer = λ value. subst SameNodes (sym (rolls-Integer value)) (ap pattern_nodes (fold_integer (expansion_level look named (Some variables)) value ∙ sym (fold_integer (expansion_level look named None) value)));
-    letter = λ value. subst SameNodes (sym (rolls-Letter value)) (ap pattern_nodes (fold_letter (expansion_level look named (Some variables)) value ∙ sym (fold_letter (expansion_level look named None) value)));
-    symbol = λ name args all. subst SameNodes (sym (rolls-Sym name args))
-        (ap pattern_nodes (expands_symbol look named (Some variables) name args) ∙ same_named (look name.text) args all ∙ ap pattern_nodes (sym (expands_symbol look named None name args)));
-    variable = λ name. subst SameNodes (sym (rolls-Variable name))
-        (ap pattern_nodes (expands_variable look named (Some variables) name) ∙ nodes_bound (Some variables) name.text (roll-Pat Pat-F.Any) ∙ ap pattern_nodes (sym (expands_variable look named None name)));
-    binder = λ name inner same. subst SameNodes (sym (rolls-Binder name inner))
-        (ap pattern_nodes (expands_binder look named (Some variables) name inner) ∙ nodes_bound (Some variables) name.text (with_them inner) ∙ same ∙ ap pattern_nodes (sym (expands_binder look named None name inner)));
-    chain = λ first rest same all. subst SameNodes (sym (rolls-Chain first rest))
-        (ap pattern_nodes (expands_chain look named (Some variables) first rest) ∙ same_links (with_them first) (without first) rest same all ∙ ap pattern_nodes (sym (expands_chain look named None first rest)));
+    any = by_level PatternTree-F.Any refl;
+    int = by_level PatternTree-F.Int refl;
+    char = by_level PatternTree-F.Char refl;
+    integer = λ value. by_level (PatternTree-F.Integer value) refl;
+    letter = λ value. by_level (PatternTree-F.Letter value) refl;
+    symbol = λ name args all. by_level (PatternTree-F.Sym name args) (same_named (look name.text) args all);
+    variable = λ name. by_level (PatternTree-F.Variable name) (nodes_bound (Some variables) name.text (roll-Pat Pat-F.Any));
+    binder = λ name inner same. by_level (PatternTree-F.Binder name inner) (nodes_bound (Some variables) name.text (with_them inner) ∙ same);
+    chain = λ first rest same all. by_level (PatternTree-F.Chain first rest) (same_links (with_them first) (without first) rest same all);
   })

@@ -3,8 +3,10 @@ use Rattle.std.proofs.Common.{◌≡◌, ℕ, ◌<◌, ◌≤◌, Bool, true, fa
 use Rattle.std.specs.Prelude.{not, ◌&&◌, ◌||◌, filter, nat_lt, is_some, Contains, IfSome, if◌then◌else◌}
 use Rattle.std.specs.List.{flat_map}
 use Rattle.std.specs.Str.{bytes_eq}
+use Rattle.std.proofs.lemmas.Slice.Eq.{bytes_eq-Decides}
 use Rattle.std.proofs.lemmas.List.Elements.{Contains-append_left, Contains-append_right}
 use Rattle.dactl_base.specs.declared.refusal.Place.{Place}
+use Rattle.dactl_base.specs.declared.refusal.Kind.{Kind}
 use Rattle.dactl_base.specs.declared.refusal.Kind.TheVariants as kinds
 use Rattle.dactl_base.specs.declared.refusal.Refusal.{Refusal}
 use Rattle.dactl_model.specs.declared.program.Pat.{Pat}
@@ -13,22 +15,23 @@ use Rattle.dactl_meaning.specs.declared.tree.PatternTree.{PatternTree}
 use Rattle.dactl_meaning.specs.declared.tree.Text.{Text}
 use Rattle.dactl_meaning.specs.Sight.{sees}
 use Rattle.dactl_meaning.specs.Expansion.{Occurrence, is_among, each_once, occurrences, variables_of, named_count, named_expansion, expansion_by, pattern_nodes, pattern_expansion}
-use Rattle.dactl_meaning.specs.RuleFaults.{again, place_of, each_at, at_if, is_too_wide, binders_in_choice, named_twice_in_pattern, wide_in_pattern, pattern_faults}
+use Rattle.dactl_meaning.specs.RuleFaults.{again, place_of, each_at, at_if, widths, binders_in_choice, named_twice_in_pattern, wide_in_pattern, pattern_faults}
 use Rattle.dactl_patterns.specs.declared.occurrences.Occurrence as code
-use Rattle.dactl_patterns.specs.Occurring.{seen}
+use Rattle.dactl_patterns.specs.declared.occurrences.Found.{Found}
+use Rattle.dactl_patterns.specs.Occurring.{seen, used, HasFound}
 use Rattle.dactl_patterns.specs.Naming.{names_in, with_word}
-use Rattle.dactl_patterns.specs.TreeFaults.{fault_if, binder_fault, none_given, twice_faults, faults_with}
+use Rattle.dactl_patterns.specs.TreeFaults as spec
+use Rattle.dactl_patterns.specs.TreeFaults.{fault_if, none_given, twice_faults, faults_with}
 use Rattle.dactl_patterns.specs.Expanded.{expansion_as, variables_counted, is_wide, IsExpansion}
-use Rattle.dactl_patterns.proofs.Distinct.{among_again}
 use Rattle.dactl_patterns.proofs.Expansions.{same_nodes}
 
-binders_are : (named : Bool) (os : List Occurrence) → flat_map (binder_fault named) os ≡ each_at kinds.BinderInChoice (map (λ o. place_of o.name) (filter (λ o. named || o.in_choice) os))
-binders_are named [] = refl
-binders_are named (o ∷ os) =
-    let rest = binders_are named os in
-    elim (named || o.in_choice) as (λ b. fault_if b kinds.BinderInChoice o.name.place ++ flat_map (binder_fault named) os ≡ each_at kinds.BinderInChoice (map (λ o. place_of o.name) (if b then o ∷ filter (λ o. named || o.in_choice) os else filter (λ o. named || o.in_choice) os))) [
-      | true ↦ ap (λ k. record { kind = kinds.BinderInChoice; place = o.name.place } ∷ k) rest
-      | false ↦ rest
+-- a fault at each thing that passes the test
+each_are : {X : Type 0} (test : X → Bool) (kind : Kind) (at : X → Place) (xs : List X) → flat_map (λ x. fault_if (test x) kind (at x)) xs ≡ each_at kind (map (λ x. (at x).byte) (filter test xs))
+each_are test kind at [] = refl
+each_are test kind at (x ∷ xs) =
+    elim (test x) as (λ b. fault_if b kind (at x) ++ flat_map (λ x. fault_if (test x) kind (at x)) xs ≡ each_at kind (map (λ x. (at x).byte) (if b then x ∷ filter test xs else filter test xs))) [
+      | true ↦ ap (λ k. record { kind = kind; place = at x } ∷ k) (each_are test kind at xs)
+      | false ↦ each_are test kind at xs
     ]
 
 whole_are : (large : Bool) (place : Place) → fault_if large kinds.TooWide place ≡ each_at kinds.TooWide (at_if large place.byte)
@@ -49,9 +52,14 @@ same-push : (had : List ℕ → Bool) (names : List (List ℕ)) (w : List ℕ) �
 unfolding SameNames
 same-push had names w same = λ v. or_swapped (had v) (bytes_eq w v) ∙ ap (λ b. bytes_eq w v || b) (same v)
 
+-- a name that is one of them already is no more to tell
 same-again : (had : List ℕ → Bool) (names : List (List ℕ)) (w : List ℕ) → is_among names w ≡ true → SameNames had names → SameNames (with_word had w) names
 unfolding SameNames
-same-again had names w among same = λ v. ap (λ b. b || bytes_eq w v) (same v) ∙ among_again names w v among
+same-again had names w among same = λ v. ap (λ b. b || bytes_eq w v) (same v) ∙ by v (bytes_eq w v) refl
+  where
+    by : (v : List ℕ) (b : Bool) → bytes_eq w v ≡ b → (is_among names v || b) ≡ is_among names v
+    by v true e = let there : is_among names v ≡ true = ap (is_among names) (sym ((bytes_eq-Decides w v).0 e)) ∙ among in ap (λ b. b || true) there ∙ sym there
+    by v false e = or_swapped (is_among names v) false
 
 abbrev given_names : List Occurrence → List Name
 given_names os = map (λ o. o.name) (filter (λ o. o.given) os)
@@ -74,33 +82,29 @@ twice_are had names (o ∷ os) same =
       ] refl))
     ]
 
--- the faults of a pattern, one kind after the other
-pub faults_are : (text : Text) (owner : ℕ) (named large : Bool) (place : Place) (tree : PatternTree) → large ≡ is_too_wide named (pattern_expansion text owner tree) tree → faults_with large named place tree (occurrences tree) ≡ pattern_faults text owner named place.byte tree
-unfolding SameNames
-faults_are text owner named large place tree is =
-    let a = each_at kinds.BinderInChoice (binders_in_choice named tree) in
-    let b = each_at kinds.TooWide (wide_in_pattern tree) in
-    let c = each_at kinds.TooWide (at_if large place.byte) in
-    let d = each_at kinds.NamedTwice (named_twice_in_pattern tree) in
-    ap (λ k. k ++ (b ++ (fault_if large kinds.TooWide place ++ twice_faults none_given (occurrences tree)))) (binders_are named (occurrences tree))
-    ∙ ap (λ k. a ++ (b ++ (k ++ twice_faults none_given (occurrences tree)))) (whole_are large place)
-    ∙ ap (λ k. a ++ (b ++ (c ++ k))) (twice_are none_given [] (occurrences tree) (λ w. refl))
-    ∙ sym (append_assoc a b (c ++ d)) ∙ sym (append_assoc (a ++ b) c d)
-    ∙ ap (λ l. ((a ++ b) ++ each_at kinds.TooWide (at_if l place.byte)) ++ d) is
-
 names_seen : (xs : List code.Occurrence) → names_in xs ≡ map (λ o. o.name.text) (map seen xs)
 names_seen [] = refl
 names_seen (x ∷ xs) = ap (λ k. x.name.now.text ∷ k) (names_seen xs)
 
 -- the variables by the places that were found
-pub variables_found : (xs ys : List code.Occurrence) (tree : PatternTree) → xs ≡ ys → map seen ys ≡ occurrences tree → each_once (names_in xs) ≡ variables_of tree
-variables_found xs ys tree same found = ap each_once (ap names_in same ∙ names_seen ys ∙ ap (map (λ o. o.name.text)) found)
+pub variables_found : (found : Found) (tree : PatternTree) (xs : List code.Occurrence) → xs ≡ found.places.items → HasFound found tree → each_once (names_in xs) ≡ variables_of tree
+variables_found found tree xs same has = ap each_once (ap names_in same ∙ names_seen found.places.items ∙ ap (map (λ o. o.name.text)) has.places)
 
--- the faults by the places that were found
-pub faults_found : (text : Text) (owner : ℕ) (named large : Bool) (place : Place) (tree : PatternTree) (xs ys : List code.Occurrence) → xs ≡ ys → map seen ys ≡ occurrences tree → large ≡ is_too_wide named (pattern_expansion text owner tree) tree
-    → faults_with large named place tree (map seen xs) ≡ pattern_faults text owner named place.byte tree
-faults_found text owner named large place tree xs ys same found is =
-    ap (faults_with large named place tree) (ap (map seen) same ∙ found) ∙ faults_are text owner named large place tree is
+-- the faults by what was found, one kind after the other
+pub faults_found : (text : Text) (owner : ℕ) (named large : Bool) (place : Place) (tree : PatternTree) (found : Found) → HasFound found tree → large ≡ is_wide text owner named tree
+    → spec.faults_found large named place found ≡ pattern_faults text owner named place.byte tree
+unfolding SameNames
+faults_found text owner named large place tree found has is =
+    let a = each_at kinds.BinderInChoice (binders_in_choice named tree) in
+    let b = each_at kinds.TooWide (wide_in_pattern tree) in
+    let c = each_at kinds.TooWide (at_if large place.byte) in
+    let d = each_at kinds.NamedTwice (named_twice_in_pattern tree) in
+    (λ j. faults_with large named place (has.places j) (has.uses j))
+    ∙ (λ j.
+    each_are (λ (o : Occurrence). named || o.in_choice) kinds.BinderInChoice (λ o. o.name.place) (occurrences tree) j
+    ++ (each_are (λ (w : Name × ℕ). nat_lt 16 w.1) kinds.TooWide (λ w. w.0.place) (widths tree) j ++ (whole_are large place j ++ twice_are none_given [] (occurrences tree) (λ w. refl) j)))
+    ∙ sym (append_assoc a b (c ++ d)) ∙ sym (append_assoc (a ++ b) c d)
+    ∙ ap (λ l. ((a ++ b) ++ each_at kinds.TooWide (at_if l place.byte)) ++ d) is
 
 -- ---- the expansion
 

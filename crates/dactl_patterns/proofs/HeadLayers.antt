@@ -1,9 +1,9 @@
 -- The head of an expansion, by the layer of the pattern at its top.
-use Rattle.std.proofs.Common.{◌≡◌, ℕ, ℤ, Bool, true, false, ◌||◌, List, [], ◌∷◌, map, Option, Some, None, refl, ap, ◌∙◌, if◌then◌else◌}
+use Rattle.std.proofs.Common.{◌≡◌, ℕ, Bool, true, false, ◌||◌, List, [], ◌∷◌, map, Option, Some, None, refl, ap, ◌∙◌, if◌then◌else◌}
 use Rattle.dactl_model.specs.declared.program.Pat.{Pat}
 use Rattle.dactl_model.specs.declared.program.Pat.TheOpen.{Pat-F}
 use Rattle.dactl_model.specs.declared.program.Pat.TheViews.{roll-Pat}
-use Rattle.dactl_model.specs.declared.program.Pat.TheFolds.{fold-roll-Pat}
+use Rattle.dactl_model.specs.declared.program.Pat.TheFolds.{map-Pat, fold-roll-Pat}
 use Rattle.dactl_model.specs.Binders.{head, head_level}
 use Rattle.dactl_meaning.specs.declared.tree.Name.{Name}
 use Rattle.dactl_meaning.specs.declared.tree.Sign.{Sign}
@@ -11,9 +11,11 @@ use Rattle.dactl_meaning.specs.declared.tree.Sign.TheVariants as signs
 use Rattle.dactl_meaning.specs.declared.tree.PatternTree.{PatternTree}
 use Rattle.dactl_meaning.specs.declared.tree.PatternTree.TheVariants as p
 use Rattle.dactl_meaning.specs.declared.tree.PatternTree.TheOpen.{PatternTree-F}
+use Rattle.dactl_meaning.specs.declared.tree.PatternTree.TheViews.{roll-PatternTree}
+use Rattle.dactl_meaning.specs.declared.tree.PatternTree.TheFolds.{map-PatternTree, fold-roll-PatternTree}
 use Rattle.dactl_meaning.specs.Sight.{Seen}
 use Rattle.dactl_meaning.specs.Expansion.{is_plus, has_plus, at_name, at_variable, join, chain, expansion_level, expansion_by}
-use Rattle.dactl_patterns.proofs.Trees.{fold_symbol, fold_variable, fold_binder, fold_chain, fold_any, fold_int, fold_char, fold_integer, fold_letter}
+use Rattle.dactl_patterns.proofs.Trees.{fold_symbol, fold_variable, fold_binder, fold_chain}
 use Rattle.dactl_meaning.proofs.Induction.{plus_kept}
 
 -- ---- one layer of an expansion
@@ -46,20 +48,9 @@ module _ (look : List ℕ → Option Seen) (expansion : ℕ → ℕ → Pat) (va
   abbrev level : PatternTree-F Pat → Pat
   level = expansion_level look expansion variables
 
-  pub head_any : head (of p.Any) ≡ None
-  head_any = ap head (fold_any level) ∙ fold-roll-Pat (Option ℕ) head_level Pat-F.Any
-
-  pub head_int : head (of p.Int) ≡ None
-  head_int = ap head (fold_int level) ∙ fold-roll-Pat (Option ℕ) head_level Pat-F.Int
-
-  pub head_char : head (of p.Char) ≡ None
-  head_char = ap head (fold_char level) ∙ fold-roll-Pat (Option ℕ) head_level Pat-F.Char
-
-  pub head_integer : (value : ℤ) → head (of (p.Integer value)) ≡ None
-  head_integer value = ap head (fold_integer level value) ∙ fold-roll-Pat (Option ℕ) head_level (Pat-F.Literal value)
-
-  pub head_letter : (value : ℕ) → head (of (p.Letter value)) ≡ None
-  head_letter value = ap head (fold_letter level value) ∙ fold-roll-Pat (Option ℕ) head_level (Pat-F.Letter value)
+  -- a pattern whose own layer has none
+  pub head_leaf : (tree : PatternTree) (y : PatternTree-F PatternTree) (z : Pat-F Pat) → tree ≡ roll-PatternTree y → level (map-PatternTree PatternTree Pat of y) ≡ roll-Pat z → head_level (map-Pat Pat (Option ℕ) head z) ≡ None → head (of tree) ≡ None
+  head_leaf tree y z is made none = ap (λ t. head (of t)) is ∙ ap head (fold-roll-PatternTree Pat level y ∙ made) ∙ fold-roll-Pat (Option ℕ) head_level z ∙ none
 
   pub head_variable : (name : Name) → head (of (p.Variable name)) ≡ None
   head_variable name = ap head (fold_variable level name) ∙ head_bound variables name.text (roll-Pat Pat-F.Any) ∙ fold-roll-Pat (Option ℕ) head_level Pat-F.Any

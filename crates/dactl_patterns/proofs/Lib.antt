@@ -1,4 +1,4 @@
-pub mod Growing
+pub mod Somewhere
 pub mod Trees
 pub mod Layers
 pub mod Distinct

@@ -1,17 +1,29 @@
 -- What a named pattern reaches.
 use Rattle.std.proofs.Common.{◌≡◌, ℕ, zero, suc, ◌+◌, ◌<◌, ◌≤◌, ◌⊎◌, inl, inr, List, [], ◌∷◌, ◌++◌, map, length, get_or, Option, Some, None, refl, sym, ap, ◌∙◌, subst, arith, length-append}
 use Rattle.std.specs.Prelude.{Any, Contains, slice_get}
-use Rattle.std.specs.List.{filter_map, cons_option}
-use Rattle.std.proofs.lemmas.List.Elements.{Contains-append_left}
+use Rattle.std.specs.List.{flat_map, filter_map, cons_option}
+use Rattle.std.proofs.lemmas.List.{map-append}
+use Rattle.std.proofs.lemmas.List.Elements.{Contains-append_left, Contains-append_right, Contains-append_cases}
+use Rattle.std.proofs.lemmas.Option.{slice_get_within, get_or_from_slice_get}
+use Rattle.dactl_meaning.specs.declared.tree.Name.{Name}
+use Rattle.dactl_meaning.specs.declared.tree.Sign.{Sign}
 use Rattle.dactl_meaning.specs.declared.tree.PatternTree.{PatternTree}
+use Rattle.dactl_meaning.specs.declared.tree.PatternTree.TheOpen.{PatternTree-F}
+use Rattle.dactl_meaning.specs.declared.tree.PatternTree.TheViews.{roll-PatternTree}
+use Rattle.dactl_meaning.specs.declared.tree.PatternTree.TheFolds.{map-PatternTree, fold-roll-PatternTree}
 use Rattle.dactl_meaning.specs.declared.tree.Text.{Text}
 use Rattle.dactl_meaning.specs.Declarations.{named_pattern}
+use Rattle.dactl_meaning.specs.RuleFaults.{widths_level, widths}
 use Rattle.dactl_meaning.specs.Sight.{Seen, SeenSymbol, SeenPattern, sees}
-use Rattle.dactl_meaning.specs.Uses.{Use, pattern_uses}
+use Rattle.dactl_meaning.specs.Uses.{Use, pattern_uses_level, pattern_uses}
 use Rattle.dactl_meaning.specs.Meaning.{NamedPattern, IsSeenAs, NamesIn, Names, Reaches}
 use Rattle.dactl_symbols.proofs.Sooner.{Any-nil, Any-cons, Any-uncons}
-use Rattle.dactl_patterns.specs.Cycling.{seen_pattern, named_by, named_from, Gains, ReachesItself}
-use Rattle.dactl_patterns.proofs.Gaining.{none_in}
+use Rattle.dactl_patterns.specs.declared.occurrences.Found.{Found}
+use Rattle.dactl_patterns.specs.declared.occurrences.Use as code
+use Rattle.dactl_patterns.specs.Occurring.{used, HasFound}
+use Rattle.dactl_patterns.specs.Cycling.{told, names_used, seen_pattern, pattern_at, named_by, named_from, Gains, ReachesItself}
+use Rattle.dactl_patterns.proofs.Gaining.{none_in, one_in}
+use Rattle.dactl_meaning.proofs.Induction.{Each, EachLink, pattern_induction}
 
 -- ---- names as a list
 
@@ -25,20 +37,16 @@ as-seen b None e = cc
 as-seen b (Some (SeenSymbol f class)) e = cc
 as-seen b (Some (SeenPattern m i)) e = cc
 
-in_front : (v b : NamedPattern) (xs : List NamedPattern) (k : ℕ) → k < length (v ∷ xs) → get_or (v ∷ xs) k b ≡ b → (v ≡ b) ⊎ Contains xs b
-in_front v b xs zero below at = inl at
-in_front v b xs (suc k) below at = let less : k < length xs = omega arith in inr (k, less, at)
-
 in_cons : (o : Option NamedPattern) (xs : List NamedPattern) (b : NamedPattern) → Contains (cons_option o xs) b → (o ≡ Some b) ⊎ Contains xs b
 in_cons None xs b has = inr has
-in_cons (Some v) xs b has = elim (in_front v b xs has.0 has.1 has.2) [ inl here ↦ inl (ap Some here) | inr later ↦ inr later ]
+in_cons (Some v) xs b has = elim (Contains-append_cases (v ∷ []) xs b has) [ inl here ↦ inl (ap Some (one_in v b here)) | inr later ↦ inr later ]
 
 to_front : (o : Option NamedPattern) (xs : List NamedPattern) (b : NamedPattern) → o ≡ Some b → Contains (cons_option o xs) b
 to_front o xs b is = subst (λ (p : Option NamedPattern). Contains (cons_option p xs) b) (sym is) (0, (omega arith), refl)
 
 to_later : (o : Option NamedPattern) (xs : List NamedPattern) (b : NamedPattern) → Contains xs b → Contains (cons_option o xs) b
 to_later None xs b has = has
-to_later (Some v) xs b has = let below : has.0 < length xs = has.1 in let less : suc has.0 < length (v ∷ xs) = omega arith in (suc has.0, less, has.2)
+to_later (Some v) xs b has = Contains-append_right (v ∷ []) xs b has
 
 module _ (look : List ℕ → Option Seen) (b : NamedPattern) where
   abbrev found : List Use → List NamedPattern
@@ -61,19 +69,68 @@ module _ (look : List ℕ → Option Seen) (b : NamedPattern) where
     | inr later ↦ inr (from_list us later)
   ])
 
+abbrev use_names : List Use → List Name
+use_names uses = map (λ u. u.name) uses
+
+abbrev width_names : List (Name × ℕ) → List Name
+width_names ws = map (λ w. w.0) ws
+
+-- the uses of names and those with numbers of arguments have the same names
+abbrev SameNames : PatternTree → Type 0
+SameNames t = use_names (pattern_uses t) ≡ names_used t
+
+same_names : (t : PatternTree) → SameNames t
+same_names = pattern_induction SameNames (record {
+  any = both PatternTree-F.Any refl;
+  int = both PatternTree-F.Int refl;
+  char = both PatternTree-F.Char refl;
+  integer = λ value. both (PatternTree-F.Integer value) refl;
+  letter = λ value. both (PatternTree-F.Letter value) refl;
+  symbol = λ name args each. both (PatternTree-F.Sym name args) (ap (λ k. name ∷ k) (trees args each));
+  variable = λ name. both (PatternTree-F.Variable name) refl;
+  binder = λ name inner same. both (PatternTree-F.Binder name inner) same;
+  chain = λ first rest same each. both (PatternTree-F.Chain first rest)
+      (map-append (λ (u : Use). u.name) (pattern_uses first) _ ∙ (λ j. same j ++ links rest each j) ∙ sym (map-append (λ (w : Name × ℕ). w.0) (widths first) _));
+})
+  where
+    both : (y : PatternTree-F PatternTree) → use_names (pattern_uses_level (map-PatternTree PatternTree (List Use) pattern_uses y)) ≡ width_names (widths_level (map-PatternTree PatternTree (List (Name × ℕ)) widths y)) → SameNames (roll-PatternTree y)
+    both y e = ap use_names (fold-roll-PatternTree (List Use) pattern_uses_level y) ∙ e ∙ sym (ap width_names (fold-roll-PatternTree (List (Name × ℕ)) widths_level y))
+
+    trees : (ts : List PatternTree) → Each SameNames ts → use_names (flat_map (λ (u : List Use). u) (map pattern_uses ts)) ≡ width_names (flat_map (λ (w : List (Name × ℕ)). w) (map widths ts))
+    trees [] each = refl
+    trees (t ∷ ts) each = map-append (λ (u : Use). u.name) (pattern_uses t) _ ∙ (λ j. each.0 j ++ trees ts each.1 j) ∙ sym (map-append (λ (w : Name × ℕ). w.0) (widths t) _)
+
+    links : (rest : List (Sign × PatternTree)) → EachLink SameNames rest
+        → use_names (flat_map (λ (l : Sign × List Use). l.1) (map (λ l. (l.0, pattern_uses l.1)) rest)) ≡ width_names (flat_map (λ (l : Sign × List (Name × ℕ)). l.1) (map (λ l. (l.0, widths l.1)) rest))
+    links [] each = refl
+    links (l ∷ rest) each = map-append (λ (u : Use). u.name) (pattern_uses l.1) _ ∙ (λ j. each.0 j ++ links rest each.1 j) ∙ sym (map-append (λ (w : Name × ℕ). w.0) (widths l.1) _)
+
+abbrev Lists : Text → ℕ → NamedPattern → List Name → Type 0
+Lists text m b names = Contains (filter_map (pattern_at text m) names) b
+
 by_tree : (text : Text) (m : ℕ) (o : Option PatternTree) (b : NamedPattern) → NamesIn text m o b → Contains (named_by text m o) b
 by_tree text m None b names = absurd names
-by_tree text m (Some tree) b names = listed (sees text m) b (pattern_uses tree) names
+by_tree text m (Some tree) b names = subst (Lists text m b) (same_names tree) (listed (sees text m) b (pattern_uses tree) names)
 
 of_tree : (text : Text) (m : ℕ) (o : Option PatternTree) (b : NamedPattern) → Contains (named_by text m o) b → NamesIn text m o b
 of_tree text m None b has = none_in b has
-of_tree text m (Some tree) b has = from_list (sees text m) b (pattern_uses tree) has
+of_tree text m (Some tree) b has = from_list (sees text m) b (pattern_uses tree) (subst (Lists text m b) (sym (same_names tree)) has)
 
 pub names_listed : (text : Text) (a b : NamedPattern) → Names text a b → Contains (named_from text a) b
 names_listed text a b names = by_tree text a.0 (named_pattern text a.0 a.1) b names
 
 listed_names : (text : Text) (a b : NamedPattern) → Contains (named_from text a) b → Names text a b
 listed_names text a b has = of_tree text a.0 (named_pattern text a.0 a.1) b has
+
+told_used : (uses : List code.Use) → told uses ≡ map (λ w. w.0) (map used uses)
+told_used [] = refl
+told_used (u ∷ uses) = ap (λ k. u.name.now ∷ k) (told_used uses)
+
+-- the named patterns by the uses that were found
+pub patterns_found : (text : Text) (a : NamedPattern) (tree : PatternTree) (found : Found) (uses : List code.Use) → uses ≡ found.uses.items → HasFound found tree → Some tree ≡ named_pattern text a.0 a.1
+    → filter_map (pattern_at text a.0) (told uses) ≡ named_from text a
+patterns_found text a tree found uses same has at =
+    ap (filter_map (pattern_at text a.0)) (ap told same ∙ told_used found.uses.items ∙ ap (map (λ w. w.0)) has.uses) ∙ ap (named_by text a.0) at
 
 -- ---- paths
 
@@ -116,28 +173,20 @@ stays keys new more k d is below = ap (λ l. get_or l k d) is ∙ before keys mo
     before (x ∷ keys) more zero d below = refl
     before (x ∷ keys) more (suc k) d below = before keys more k d (omega arith)
 
-at_place : (keys : List NamedPattern) (i : ℕ) (x : NamedPattern) → slice_get keys i ≡ Some x → (i < length keys) × ((d : NamedPattern) → get_or keys i d ≡ x)
-at_place [] i x e = absurd (none e)
-  where
-    none : None ≡ Some x → ⊥
-    none e = cc
-at_place (y ∷ keys) zero x e = (omega arith, λ d. (let is : y ≡ x = cc in is))
-at_place (y ∷ keys) (suc i) x e = let later = at_place keys i x e in (omega (arith, later.0), later.1)
-
 pub walk_goes_on : (text : Text) (a : NamedPattern) (keys new : List NamedPattern) (at : ℕ) (next : NamedPattern) → Walked text a keys at → slice_get keys at ≡ Some next → Gains keys (named_from text next) new → Walked text a new (at + 1)
 walk_goes_on text a keys new at next walked found gains =
-    let place = at_place keys at next found in
-    let below : at < length keys = place.0 in
+    let below : at < length keys = slice_get_within keys at next found in
+    let place : (d : NamedPattern) → get_or keys at d ≡ next = λ d. get_or_from_slice_get keys at next d found in
     let longer : length new ≡ length keys + length gains.grown.0 = ap length gains.grown.1 ∙ length-append keys gains.grown.0 in
     record {
       start = λ x has. older x (walked.start x has);
       closed = λ k d less x has. elim (split k at less) [
         | inl before ↦ older x (walked.closed k d before x (subst (λ (z : NamedPattern). Contains (named_from text z) x) (stays keys new gains.grown.0 k d gains.grown.1 (omega (arith, before, below))) has))
-        | inr here ↦ gains.each x (subst (λ (z : NamedPattern). Contains (named_from text z) x) (stays keys new gains.grown.0 k d gains.grown.1 (omega (arith, here, below)) ∙ ap (λ j. get_or keys j d) here ∙ place.1 d) has)
+        | inr here ↦ gains.each x (subst (λ (z : NamedPattern). Contains (named_from text z) x) (stays keys new gains.grown.0 k d gains.grown.1 (omega (arith, here, below)) ∙ ap (λ j. get_or keys j d) here ∙ place d) has)
       ];
       sound = λ x has. elim (gains.only x has) [
         | inl before ↦ walked.sound x before
-        | inr named ↦ (let way = walked.sound next (at, below, place.1 next) in (way.0 ++ next ∷ [], path_then text a next x way.0 way.1 (listed_names text next x named)))
+        | inr named ↦ (let way = walked.sound next (at, below, place next) in (way.0 ++ next ∷ [], path_then text a next x way.0 way.1 (listed_names text next x named)))
       ];
       within = omega (arith, below, longer);
     }

@@ -1,24 +1,22 @@
 -- One named pattern more in the table, and how many a text declares.
-use Rattle.std.proofs.Common.{◌≡◌, ℕ, zero, suc, ◌+◌, ◌≤◌, Bool, true, false, List, [], ◌∷◌, map, length, cond, Option, Some, refl, sym, ap, ◌∙◌, subst, arith}
-use Rattle.std.specs.List.{flat_map, filter_map, cons_option, enumerate_from}
+use Rattle.std.proofs.Common.{◌≡◌, ℕ, zero, suc, ◌+◌, ◌≤◌, Bool, true, false, List, [], ◌∷◌, length, cond, Some, refl, sym, ap, ◌∙◌, subst, arith}
+use Rattle.std.specs.List.{flat_map, filter_map, cons_option}
 use Rattle.std.proofs.lemmas.List.{length-append}
-use Rattle.std.proofs.lemmas.List.Elements.{filter_map-append}
 use Rattle.std.specs.Borrow.{Bor}
 use Rattle.indexmap.specs.IndexMap.{IndexMap, get}
 use Rattle.dactl_model.specs.declared.program.Pat.{Pat}
 use Rattle.dactl_meaning.specs.declared.tree.PatternTree.{PatternTree}
 use Rattle.dactl_meaning.specs.declared.tree.Item.{Item}
 use Rattle.dactl_meaning.specs.declared.tree.Item.TheVariants as item
-use Rattle.dactl_meaning.specs.declared.tree.Module.{Module}
 use Rattle.dactl_meaning.specs.declared.tree.Text.{Text}
-use Rattle.dactl_meaning.specs.Declarations.{Placed, items_of, item_pattern}
+use Rattle.dactl_meaning.specs.Declarations.{Placed, items, item_pattern}
 use Rattle.dactl_meaning.specs.Expansion.{named_count, named_expansion}
 use Rattle.dactl_meaning.specs.Meaning.{NamedPattern}
 use Rattle.dactl_patterns.specs.declared.named.Known.{Known}
 use Rattle.dactl_patterns.specs.declared.named.NamedPatterns.{NamedPatterns}
-use Rattle.dactl_patterns.specs.Cycles.{declared_at, declared_from, all_declared}
+use Rattle.dactl_patterns.specs.Cycles.{declared_at, declared, all_declared}
 use Rattle.dactl_patterns.specs.Levels.{is_same}
-use Rattle.dactl_patterns.specs.Table.{IsKnown, IsRight, IsRightFrom}
+use Rattle.dactl_patterns.specs.Table.{IsKnown, IsRight, Deepens, IsRightFrom}
 use Rattle.dactl_patterns.proofs.Gaining.{same-true}
 
 -- ---- the table
@@ -40,8 +38,7 @@ module _ {S : Type 0} (old new : IndexMap NamedPattern Known S) (at : NamedPatte
       by false same = before a k (ap (λ (b : Bool). cond b (Some known) (get is_same old a)) (sym same) ∙ sym (updates a) ∙ found)
 
 -- with one named pattern more it is right from the next depth on
-pub right_next : (depth : ℕ) (old new : NamedPatterns) → new.text ≡ old.text → IsRightFrom depth old
-    → ((d : ℕ) → IsRight (named_expansion old.text.now d) old → IsRight (named_expansion old.text.now (suc d)) old → IsRight (named_expansion old.text.now (suc d)) new) → IsRightFrom (depth + 1) new
+pub right_next : (depth : ℕ) (old new : NamedPatterns) → new.text ≡ old.text → IsRightFrom depth old → Deepens old new → IsRightFrom (depth + 1) new
 right_next depth old new same before step = next
   where
     next : (d : ℕ) → depth + 1 ≤ d → IsRight (named_expansion new.text.now d) new
@@ -50,31 +47,17 @@ right_next depth old new same before step = next
 
 -- ---- how many named patterns are declared
 
-abbrev pattern_at : Placed → Option PatternTree
-pattern_at i = item_pattern i.item
+counts_item : (a : NamedPattern) (i : Item) (rest : List PatternTree) → length (cons_option (item_pattern i) rest) ≡ length (declared_at a i) + length rest
+counts_item a (item.Imports names) rest = omega arith
+counts_item a (item.Symbols class public names) rest = omega arith
+counts_item a (item.Named public name pattern) rest = omega arith
+counts_item a (item.Rules groups) rest = omega arith
+counts_item a (item.Initial place terms) rest = omega arith
 
-abbrev placed : ℕ → ℕ → List Item → List Placed
-placed m j its = map (λ i. record { owner = m; number = i.0; item = i.1 }) (enumerate_from j its)
+counts : (ps : List Placed) → length (filter_map (λ i. item_pattern i.item) ps) ≡ length (flat_map declared ps)
+counts [] = refl
+counts (p ∷ ps) =
+    omega (arith, counts_item (p.owner, p.number) p.item (filter_map (λ i. item_pattern i.item) ps), counts ps, length-append (declared p) (flat_map declared ps))
 
-counts_item : (m j : ℕ) (i : Item) (rest : List PatternTree) → length (cons_option (item_pattern i) rest) ≡ length (declared_at m j i) + length rest
-counts_item m j (item.Imports names) rest = omega arith
-counts_item m j (item.Symbols class public names) rest = omega arith
-counts_item m j (item.Named public name pattern) rest = omega arith
-counts_item m j (item.Rules groups) rest = omega arith
-counts_item m j (item.Initial place terms) rest = omega arith
-
-counts_items : (m j : ℕ) (its : List Item) → length (filter_map pattern_at (placed m j its)) ≡ length (declared_from m j its)
-counts_items m j [] = refl
-counts_items m j (i ∷ its) =
-    omega (arith, counts_item m j i (filter_map pattern_at (placed m (j + 1) its)), counts_items m (j + 1) its, length-append (declared_at m j i) (declared_from m (j + 1) its))
-
-counts_modules : (m : ℕ) (ms : List Module) → length (filter_map pattern_at (flat_map items_of (enumerate_from m ms))) ≡ length (all_declared m ms)
-counts_modules m [] = refl
-counts_modules m (x ∷ ms) =
-    let after = flat_map items_of (enumerate_from (m + 1) ms) in
-    ap length (filter_map-append pattern_at (items_of (m, x)) after)
-    ∙ length-append (filter_map pattern_at (items_of (m, x))) (filter_map pattern_at after)
-    ∙ omega (arith, counts_items m 0 x.items, counts_modules (m + 1) ms, length-append (declared_from m 0 x.items) (all_declared (m + 1) ms))
-
-pub counted : (text : Text) → named_count text ≡ length (all_declared 0 text.modules)
-counted text = counts_modules 0 text.modules
+pub counted : (text : Text) → named_count text ≡ length (all_declared text)
+counted text = counts (items text)

@@ -1,9 +1,9 @@
 -- A fold over a pattern, by the layer at its top.
-use Rattle.std.proofs.Common.{◌≡◌, ℕ, ℤ, List, map, sym, ap, ◌∙◌}
+use Rattle.std.proofs.Common.{◌≡◌, List, map, sym, ap, ◌∙◌}
 use Rattle.dactl_meaning.specs.declared.tree.Name.{Name}
 use Rattle.dactl_meaning.specs.declared.tree.Sign.{Sign}
 use Rattle.dactl_meaning.specs.declared.tree.PatternTree.{PatternTree}
-use Rattle.dactl_meaning.specs.declared.tree.PatternTree.TheVariants.{rolls-Any, rolls-Int, rolls-Char, rolls-Integer, rolls-Letter, rolls-Variable, rolls-Binder, rolls-Chain, rolls-Sym}
+use Rattle.dactl_meaning.specs.declared.tree.PatternTree.TheVariants.{rolls-Variable, rolls-Binder, rolls-Chain, rolls-Sym}
 use Rattle.dactl_meaning.specs.declared.tree.PatternTree.TheVariants as p
 use Rattle.dactl_meaning.specs.declared.tree.PatternTree.TheOpen.{PatternTree-F}
 use Rattle.dactl_meaning.specs.declared.tree.PatternTree.TheFolds.{fold-PatternTree, fold-roll-PatternTree}
@@ -23,18 +23,3 @@ module _ {R : Type 0} (level : PatternTree-F R → R) where
 
   pub fold_chain : (first : PatternTree) (rest : List (Sign × PatternTree)) → folded (p.Chain first rest) ≡ level (PatternTree-F.Chain (folded first) (map (λ l. (l.0, folded l.1)) rest))
   fold_chain first rest = ap folded (sym (rolls-Chain first rest)) ∙ fold-roll-PatternTree R level (PatternTree-F.Chain first rest)
-
-  pub fold_any : folded p.Any ≡ level PatternTree-F.Any
-  fold_any = ap folded (sym rolls-Any) ∙ fold-roll-PatternTree R level PatternTree-F.Any
-
-  pub fold_int : folded p.Int ≡ level PatternTree-F.Int
-  fold_int = ap folded (sym rolls-Int) ∙ fold-roll-PatternTree R level PatternTree-F.Int
-
-  pub fold_char : folded p.Char ≡ level PatternTree-F.Char
-  fold_char = ap folded (sym rolls-Char) ∙ fold-roll-PatternTree R level PatternTree-F.Char
-
-  pub fold_integer : (value : ℤ) → folded (p.Integer value) ≡ level (PatternTree-F.Integer value)
-  fold_integer value = ap folded (sym (rolls-Integer value)) ∙ fold-roll-PatternTree R level (PatternTree-F.Integer value)
-
-  pub fold_letter : (value : ℕ) → folded (p.Letter value) ≡ level (PatternTree-F.Letter value)
-  fold_letter value = ap folded (sym (rolls-Letter value)) ∙ fold-roll-PatternTree R level (PatternTree-F.Letter value)

@@ -3,20 +3,20 @@ use Rattle.std.specs.Prelude.{◌≡◌, ℕ, ◌⊎◌, List, [], ◌++◌, map
 use Rattle.std.specs.List.{filter_map}
 use Rattle.dactl_meaning.specs.declared.tree.Name.{Name}
 use Rattle.dactl_meaning.specs.declared.tree.PatternTree.{PatternTree}
-use Rattle.dactl_meaning.specs.declared.tree.Sign.{Sign}
 use Rattle.dactl_meaning.specs.declared.tree.Text.{Text}
 use Rattle.dactl_meaning.specs.Declarations.{named_pattern}
+use Rattle.dactl_meaning.specs.RuleFaults.{widths}
 use Rattle.dactl_meaning.specs.Sight.{Seen, SeenSymbol, SeenPattern, sees}
-use Rattle.dactl_meaning.specs.Uses.{pattern_uses}
 use Rattle.dactl_meaning.specs.Meaning.{NamedPattern, Reaches}
+use Rattle.dactl_patterns.specs.declared.occurrences.Use.{Use}
 
--- the names of symbols and patterns that a pattern uses
-abbrev pub used : PatternTree → List Name
-used tree = map (λ u. u.name) (pattern_uses tree)
+-- the names that the code found
+abbrev pub told : List Use → List Name
+told uses = map (λ u. u.name.now) uses
 
--- and those that the pattern of a link uses
-abbrev pub link_used : Sign × PatternTree → List Name
-link_used link = used link.1
+-- the names of symbols and named patterns that a pattern uses
+abbrev pub names_used : PatternTree → List Name
+names_used tree = map (λ w. w.0) (widths tree)
 
 -- the named pattern that is seen
 abbrev pub seen_pattern : Option Seen → Option NamedPattern
@@ -24,10 +24,14 @@ seen_pattern None = None
 seen_pattern (Some (SeenSymbol f class)) = None
 seen_pattern (Some (SeenPattern m i)) = Some (m, i)
 
+-- the named pattern that the module sees under a name
+abbrev pub pattern_at : Text → ℕ → Name → Option NamedPattern
+pattern_at text owner name = seen_pattern (sees text owner name.text)
+
 -- the named patterns that a tree in the module names
 abbrev pub named_by : Text → ℕ → Option PatternTree → List NamedPattern
 named_by text owner None = []
-named_by text owner (Some tree) = filter_map (λ n. seen_pattern (sees text owner n.text)) (used tree)
+named_by text owner (Some tree) = filter_map (pattern_at text owner) (names_used tree)
 
 -- the named patterns that a named pattern names
 abbrev pub named_from : Text → NamedPattern → List NamedPattern

@@ -5,7 +5,6 @@ use Rattle.std.specs.BTreeSet.{BTreeSet, contains_by}
 use Rattle.std.specs.Cmp.Lexicographic.{slice_cmp}
 use Rattle.std.specs.Ordering.{nat_cmp}
 use Rattle.std.specs.Str.{bytes_eq}
-use Rattle.dactl_meaning.specs.declared.tree.Name.{Name}
 use Rattle.dactl_patterns.specs.declared.occurrences.Occurrence.{Occurrence}
 
 -- whether the set has the name
@@ -19,7 +18,3 @@ with_word is_known name w = is_known w || bytes_eq name w
 -- the names at these places
 abbrev pub names_in : List Occurrence → List (List ℕ)
 names_in occurrences = map (λ o. o.name.now.text) occurrences
-
--- the names that the references point to
-abbrev pub told : List (Bor Name) → List Name
-told names = map (λ n. n.now) names

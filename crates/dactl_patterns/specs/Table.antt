@@ -1,5 +1,5 @@
 -- What is known of a text's named patterns, and that it is right.
-use Rattle.std.specs.Prelude.{◌≡◌, ℕ, ◌<◌, ◌≤◌, List, Option, Some, None}
+use Rattle.std.specs.Prelude.{◌≡◌, ℕ, suc, ◌<◌, ◌≤◌, List, Option, Some, None}
 use Rattle.indexmap.specs.IndexMap.{get}
 use Rattle.dactl_model.specs.declared.program.Pat.{Pat}
 use Rattle.dactl_model.specs.Binders.{head}
@@ -47,6 +47,11 @@ IsKnownOf patterns owner tree k = (named : ℕ → ℕ → Pat) → IsRight name
 pub record IsSameText (old new : NamedPatterns) : Type 0 where
   pub text : new.text ≡ old.text
   pub scopes : new.scopes ≡ old.scopes
+
+-- what is right for a depth and for the next one stays right for the next
+abbrev pub Deepens : NamedPatterns → NamedPatterns → Type 0
+Deepens old new =
+    (d : ℕ) → IsRight (named_expansion old.text.now d) old → IsRight (named_expansion old.text.now (suc d)) old → IsRight (named_expansion old.text.now (suc d)) new
 
 -- what was right for each depth from this one on is so from the next one on
 abbrev pub IsRightFrom : ℕ → NamedPatterns → Type 0

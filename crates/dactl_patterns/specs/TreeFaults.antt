@@ -1,16 +1,15 @@
 -- The faults of one pattern, one after the other.
-use Rattle.std.specs.Prelude.{ℕ, Bool, false, ◌&&◌, ◌||◌, List, [], ◌∷◌, ◌++◌, nat_lt, if◌then◌else◌}
+use Rattle.std.specs.Prelude.{ℕ, Bool, false, ◌&&◌, ◌||◌, List, [], ◌∷◌, ◌++◌, map, nat_lt, if◌then◌else◌}
 use Rattle.std.specs.List.{flat_map}
 use Rattle.dactl_base.specs.declared.refusal.Place.{Place}
 use Rattle.dactl_base.specs.declared.refusal.Kind.{Kind}
 use Rattle.dactl_base.specs.declared.refusal.Kind.TheVariants as kinds
 use Rattle.dactl_base.specs.declared.refusal.Refusal.{Refusal}
 use Rattle.dactl_meaning.specs.declared.tree.Name.{Name}
-use Rattle.dactl_meaning.specs.declared.tree.PatternTree.{PatternTree}
-use Rattle.dactl_meaning.specs.declared.tree.Sign.{Sign}
 use Rattle.dactl_meaning.specs.Expansion.{Occurrence}
-use Rattle.dactl_meaning.specs.RuleFaults.{each_at, wide_in_pattern}
+use Rattle.dactl_patterns.specs.declared.occurrences.Found.{Found}
 use Rattle.dactl_patterns.specs.Naming.{with_word}
+use Rattle.dactl_patterns.specs.Occurring.{seen, used}
 
 -- the fault at a place, where it holds
 abbrev pub fault_if : Bool → Kind → Place → List Refusal
@@ -20,17 +19,9 @@ fault_if holds kind place = if holds then record { kind = kind; place = place } 
 abbrev pub binder_fault : Bool → Occurrence → List Refusal
 binder_fault named o = fault_if (named || o.in_choice) kinds.BinderInChoice o.name.place
 
--- a symbol has too many arguments
-abbrev pub wide_fault : Name → ℕ → List Refusal
-wide_fault name count = fault_if (nat_lt 16 count) kinds.TooWide name.place
-
--- every symbol of the pattern that has too many arguments
-abbrev pub wide_faults : PatternTree → List Refusal
-wide_faults tree = each_at kinds.TooWide (wide_in_pattern tree)
-
--- and those of the pattern of a link
-abbrev pub link_wide_faults : Sign × PatternTree → List Refusal
-link_wide_faults link = wide_faults link.1
+-- a symbol or a named pattern is given too many arguments
+abbrev pub wide_fault : Name × ℕ → List Refusal
+wide_fault w = fault_if (nat_lt 16 w.1) kinds.TooWide w.0.place
 
 -- no name has had `:`
 abbrev pub none_given : List ℕ → Bool
@@ -49,7 +40,11 @@ abbrev pub twice_faults : (List ℕ → Bool) → List Occurrence → List Refus
 twice_faults had [] = []
 twice_faults had (o ∷ os) = twice_fault had o ++ twice_faults (given_after had o) os
 
--- all faults of a pattern, by the places of its variables; `large` says that the whole is too wide
-abbrev pub faults_with : Bool → Bool → Place → PatternTree → List Occurrence → List Refusal
-faults_with large named place tree os =
-    flat_map (binder_fault named) os ++ (wide_faults tree ++ (fault_if large kinds.TooWide place ++ twice_faults none_given os))
+-- all faults of a pattern, by the places of its variables and its uses of names; `large` says that the whole is too wide
+abbrev pub faults_with : Bool → Bool → Place → List Occurrence → List (Name × ℕ) → List Refusal
+faults_with large named place os ws =
+    flat_map (binder_fault named) os ++ (flat_map wide_fault ws ++ (fault_if large kinds.TooWide place ++ twice_faults none_given os))
+
+-- all faults of a pattern, by what the code found in it
+abbrev pub faults_found : Bool → Bool → Place → Found → List Refusal
+faults_found large named place found = faults_with large named place (map seen found.places.items) (map used found.uses.items)

@@ -2,23 +2,19 @@
 
 ghost use Rattle.std.specs.Prelude.{◌≡◌, ◌↔◌, IsTrue, OnOk, IfOk};
 ghost use Rattle.dactl_symbols.specs.Least.{TellsLeast};
-ghost use Rattle.dactl_symbols.specs.Scoping.{IsScopesOf};
 ghost use Rattle.dactl_patterns.specs.Cycling as spec;
 ghost use Rattle.dactl_patterns.specs.Levels.{IsDescending, level_in};
 ghost use Rattle.dactl_patterns.specs.Cycles.{DeclaredCycle, SomeCycle, stands_behind};
 
 use crate::declarations::Declared;
-use crate::levels::is_free;
-use crate::uses::named_from;
+use crate::levels::{Levels, is_free};
+use crate::uses::{Pattern, Web};
 use dactl_base::refusal::{Kind, Refusal};
-use dactl_meaning::tree::Text;
 use dactl_model::Memory;
 use dactl_symbols::least::lesser;
-use dactl_symbols::sight::Scopes;
-use indexmap::{IndexMap, IndexSet};
-use std::alloc::Global;
+use indexmap::IndexSet;
 
-fn gain(reached: &mut IndexSet<(usize, usize)>, names: &[(usize, usize)]) -> Result<(), Memory>
+fn gain(reached: &mut IndexSet<Pattern>, names: &[Pattern]) -> Result<(), Memory>
     ensures { OnOk result (spec.Gains reached.old.keys names.now reached.new.keys) }
 {
     for name in names {
@@ -28,81 +24,59 @@ fn gain(reached: &mut IndexSet<(usize, usize)>, names: &[(usize, usize)]) -> Res
 }
 
 /// Whether the named pattern reaches itself.
-fn reaches_itself(
-    alloc: Global,
-    text: &Text,
-    scopes: &Scopes,
-    owner: usize,
-    item: usize,
-) -> Result<bool, Memory>
-    requires { IsScopesOf text.now scopes.now }
-    ensures { IfOk result (λ does. IsTrue does ↔ spec.ReachesItself text.now (owner, item)) }
+fn reaches_itself(web: &Web, pattern: Pattern) -> Result<bool, Memory>
+    ensures { IfOk result (λ does. IsTrue does ↔ spec.ReachesItself web.now.text.now pattern) }
 {
-    let mut reached = IndexSet::new(alloc);
-    let first = named_from(alloc, text, scopes, owner, item)?;
+    let mut reached = IndexSet::new(web.alloc);
+    let first = web.named_from(pattern)?;
     gain(&mut reached, first.as_slice())?;
     let mut at = 0;
     'walk: while at < reached.len() {
-        let next = reached[at];
-        let names = named_from(alloc, text, scopes, next.0, next.1)?;
+        let names = web.named_from(reached[at])?;
         gain(&mut reached, names.as_slice())?;
         at += 1;
     }
-    Ok(reached.contains(&(owner, item)))
+    Ok(reached.contains(&pattern))
 }
 
-fn cycle_at(
-    alloc: Global,
-    text: &Text,
-    scopes: &Scopes,
-    levels: &IndexMap<(usize, usize), usize>,
-    pattern: Declared,
-) -> Result<Option<Refusal>, Memory>
-    requires scopes { IsScopesOf text.now scopes.now }
-    requires levels { IsDescending text.now (level_in levels.now) }
-    ensures { IfOk result (TellsLeast (DeclaredCycle text.now pattern)) }
+fn cycle_at(web: &Web, levels: &Levels, declared: Declared) -> Result<Option<Refusal>, Memory>
+    requires { IsDescending web.now.text.now (level_in levels.now) }
+    ensures { IfOk result (TellsLeast (DeclaredCycle web.now.text.now declared)) }
 {
-    let this = (pattern.owner, pattern.item);
-    if is_free(alloc, text, scopes, levels, this)? {
+    if is_free(web, levels, declared.pattern)? || !reaches_itself(web, declared.pattern)? {
         return Ok(None);
     }
-    if reaches_itself(alloc, text, scopes, pattern.owner, pattern.item)? {
-        return Ok(Some(Refusal {
-            kind: Kind::PatternCycle,
-            place: pattern.place,
-        }));
-    }
-    Ok(None)
+    Ok(Some(Refusal {
+        kind: Kind::PatternCycle,
+        place: declared.place,
+    }))
 }
 
 /// Whether the named pattern stands behind the fault.
-fn is_behind(pattern: Declared, fault: Option<Refusal>) -> bool
-    ensures { result ≡ stands_behind pattern.place.byte fault }
+fn is_behind(declared: Declared, fault: Option<Refusal>) -> bool
+    ensures { result ≡ stands_behind declared.place.byte fault }
 {
     match fault {
-        Some(refusal) => refusal.place.byte < pattern.place.byte,
+        Some(refusal) => refusal.place.byte < declared.place.byte,
         None => false,
     }
 }
 
 /// The fault of the first of the named patterns that reaches itself.
 pub fn first_cycle(
-    alloc: Global,
-    text: &Text,
-    scopes: &Scopes,
-    levels: &IndexMap<(usize, usize), usize>,
+    web: &Web,
+    levels: &Levels,
     patterns: &[Declared],
 ) -> Result<Option<Refusal>, Memory>
-    requires scopes { IsScopesOf text.now scopes.now }
-    requires levels { IsDescending text.now (level_in levels.now) }
-    ensures { IfOk result (TellsLeast (SomeCycle text.now patterns.now)) }
+    requires { IsDescending web.now.text.now (level_in levels.now) }
+    ensures { IfOk result (TellsLeast (SomeCycle web.now.text.now patterns.now)) }
 {
     let mut first = None;
-    for pattern in patterns {
-        if is_behind(*pattern, first) {
+    for declared in patterns {
+        if is_behind(*declared, first) {
             continue;
         }
-        let here = cycle_at(alloc, text, scopes, levels, *pattern)?;
+        let here = cycle_at(web, levels, *declared)?;
         first = lesser(first, here);
     }
     Ok(first)

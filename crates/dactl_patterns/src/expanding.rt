@@ -94,7 +94,8 @@ impl Expander<'_> {
     /// The pattern with the variable's name before it, where variables count.
     fn bound(&self, name: &Name, inner: Small) -> Result<Small, Memory>
         requires { spec.IsReady self.now }
-        ensures pat { IfOk result (λ s. s.pat ≡ expansion.at_variable (option_copied self.now.variables) name.now.text inner.pat) }
+        ensures pat { IfOk result (λ s. s.pat ≡
+            expansion.at_variable (option_copied self.now.variables) name.now.text inner.pat) }
         ensures nodes { IfOk result (λ s. s.nodes ≡ inner.nodes) }
     {
         match self.variables {
@@ -115,7 +116,8 @@ impl Expander<'_> {
     fn pattern(&self, module: usize, item: usize, most: usize) -> Result<Option<Small>, Memory>
         requires { most ≤ 64 }
         ensures within { IfOk result (λ r. IfSome r (λ s. s.nodes ≤ most)) }
-        ensures is { IfOk result (λ r. (named : ℕ → ℕ → Pat) → IsRight named self.now.patterns.now → IsWithin most (named «module» item) r) }
+        ensures is { IfOk result (λ r. (named : ℕ → ℕ → Pat) →
+            IsRight named self.now.patterns.now → IsWithin most (named «module» item) r) }
     {
         match self.patterns.known.get(&(module, item)) {
             Some(known) => taken(self.alloc, known, most),

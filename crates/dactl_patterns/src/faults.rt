@@ -4,13 +4,12 @@ ghost use Rattle.std.specs.Prelude.{◌≡◌, ◌++◌, Some, OnOk, IfOk, Conta
 ghost use Rattle.std.specs.List.{flat_map};
 ghost use Rattle.dactl_symbols.specs.Least.{least_by, TellsLeast};
 ghost use Rattle.dactl_patterns.specs.Naming.{has_word};
-ghost use Rattle.dactl_patterns.specs.Occurring.{seen};
+ghost use Rattle.dactl_patterns.specs.Occurring.{seen, used};
 ghost use Rattle.dactl_patterns.specs.TreeFaults as spec;
 
 use crate::names::add;
-use crate::occurrences::Occurrence;
+use crate::occurrences::{Found, Occurrence, Use};
 use dactl_base::refusal::{Kind, Place, Refusal};
-use dactl_meaning::tree::{PatternTree, Sign};
 use dactl_symbols::least::lesser;
 use std::alloc::{AllocError, Global};
 use std::collections::BTreeSet;
@@ -38,7 +37,8 @@ fn binders(
     occurrences: &[Occurrence],
     named: bool,
 ) -> Result<(), AllocError>
-    ensures { OnOk result (faults.new.items ≡ faults.old.items ++ flat_map (spec.binder_fault named) (map seen occurrences.now)) }
+    ensures { OnOk result (faults.new.items ≡
+        faults.old.items ++ flat_map (spec.binder_fault named) (map seen occurrences.now)) }
 {
     for occurrence in occurrences {
         fault_if(
@@ -56,8 +56,10 @@ fn note_given<'a>(
     names: &mut BTreeSet<&'a [u8]>,
     occurrence: Occurrence<'a>,
 ) -> Result<(), AllocError>
-    ensures faults { OnOk result (faults.new.items ≡ faults.old.items ++ spec.twice_fault (has_word names.old) (seen occurrence.entry)) }
-    ensures names { OnOk result (has_word names.new ≡ spec.given_after (has_word names.old) (seen occurrence.entry)) }
+    ensures faults { OnOk result (faults.new.items ≡
+        faults.old.items ++ spec.twice_fault (has_word names.old) (seen occurrence.entry)) }
+    ensures names { OnOk result
+        (has_word names.new ≡ spec.given_after (has_word names.old) (seen occurrence.entry)) }
 {
     if occurrence.given {
         let added = add(names, occurrence.name.text.as_slice())?;
@@ -72,7 +74,8 @@ fn named_twice(
     faults: &mut Vec<Refusal>,
     occurrences: &[Occurrence],
 ) -> Result<(), AllocError>
-    ensures { OnOk result (faults.new.items ≡ faults.old.items ++ spec.twice_faults spec.none_given (map seen occurrences.now)) }
+    ensures { OnOk result (faults.new.items ≡
+        faults.old.items ++ spec.twice_faults spec.none_given (map seen occurrences.now)) }
 {
     let mut names = BTreeSet::new(alloc);
     for occurrence in occurrences {
@@ -81,70 +84,34 @@ fn named_twice(
     Ok(())
 }
 
-/// Adds a `TooWide` for each symbol of the pattern with too many arguments.
-#[cycle(wide)]
-fn wide(faults: &mut Vec<Refusal>, tree: &PatternTree) -> Result<(), AllocError>
-    ensures { OnOk result (faults.new.items ≡ faults.old.items ++ spec.wide_faults tree.now) }
+/// Adds a `TooWide` for each of these uses of names that has too many arguments.
+fn wide(faults: &mut Vec<Refusal>, uses: &[Use]) -> Result<(), AllocError>
+    ensures { OnOk result
+        (faults.new.items ≡ faults.old.items ++ flat_map spec.wide_fault (map used uses.now)) }
 {
-    match tree {
-        PatternTree::Any
-        | PatternTree::Int
-        | PatternTree::Char
-        | PatternTree::Integer { .. }
-        | PatternTree::Letter { .. }
-        | PatternTree::Variable { .. } => Ok(()),
-        PatternTree::Sym { name, args } => {
-            fault_if(
-                faults,
-                args.len() > MOST_ARGUMENTS,
-                Kind::TooWide,
-                name.place,
-            )?;
-            wide_arguments(faults, args.as_slice())
-        }
-        PatternTree::Binder { inner, .. } => wide(faults, inner.get()),
-        PatternTree::Chain { first, rest } => {
-            wide(faults, first.get())?;
-            wide_links(faults, rest.as_slice())
-        }
-    }
-}
-
-#[cycle(wide)]
-fn wide_arguments(faults: &mut Vec<Refusal>, args: &[PatternTree]) -> Result<(), AllocError>
-    ensures { OnOk result (faults.new.items ≡ faults.old.items ++ flat_map spec.wide_faults args.now) }
-{
-    for argument in args {
-        wide(faults, argument)?;
-    }
-    Ok(())
-}
-
-#[cycle(wide)]
-fn wide_links(faults: &mut Vec<Refusal>, rest: &[(Sign, PatternTree)]) -> Result<(), AllocError>
-    ensures { OnOk result (faults.new.items ≡ faults.old.items ++ flat_map spec.link_wide_faults rest.now) }
-{
-    for link in rest {
-        wide(faults, &link.1)?;
+    for one in uses {
+        let many = one.args > MOST_ARGUMENTS;
+        fault_if(faults, many, Kind::TooWide, one.name.place)?;
     }
     Ok(())
 }
 
 fn all_faults(
     alloc: Global,
-    occurrences: &[Occurrence],
-    tree: &PatternTree,
+    found: &Found,
     named: bool,
     large: bool,
     place: Place,
 ) -> Result<Vec<Refusal>, AllocError>
-    ensures { IfOk result (λ faults. faults.items ≡ spec.faults_with large named place tree.now (map seen occurrences.now)) }
+    ensures { IfOk result
+        (λ faults. faults.items ≡ spec.faults_found large named place found.now) }
 {
+    let places = found.places.as_slice();
     let mut faults = Vec::new(alloc);
-    binders(&mut faults, occurrences, named)?;
-    wide(&mut faults, tree)?;
+    binders(&mut faults, places, named)?;
+    wide(&mut faults, found.uses.as_slice())?;
     fault_if(&mut faults, large, Kind::TooWide, place)?;
-    named_twice(alloc, &mut faults, occurrences)?;
+    named_twice(alloc, &mut faults, places)?;
     Ok(faults)
 }
 
@@ -159,18 +126,18 @@ fn first_of(faults: &[Refusal]) -> Option<Refusal>
     first
 }
 
-/// The first fault of a pattern, by the places of its variables. `large` says that the whole is too
-/// wide, and `place` is where that is told.
+/// The first fault of a pattern, by what stands in it. `large` says that the whole is too wide, and
+/// `place` is where that is told.
 pub fn first_fault(
     alloc: Global,
-    occurrences: &[Occurrence],
-    tree: &PatternTree,
+    found: &Found,
     named: bool,
     large: bool,
     place: Place,
 ) -> Result<Option<Refusal>, AllocError>
-    ensures { IfOk result (TellsLeast (Contains (spec.faults_with large named place tree.now (map seen occurrences.now)))) }
+    ensures { IfOk result
+        (TellsLeast (Contains (spec.faults_found large named place found.now))) }
 {
-    let faults = all_faults(alloc, occurrences, tree, named, large, place)?;
+    let faults = all_faults(alloc, found, named, large, place)?;
     Ok(first_of(faults.as_slice()))
 }

@@ -2,10 +2,11 @@
 
 ghost use Rattle.std.specs.Prelude.{◌≡◌, option_map};
 ghost use Rattle.std.specs.Option.{option_copied};
-ghost use Rattle.dactl_meaning.specs.Declarations.{named_pattern};
+ghost use Rattle.dactl_meaning.specs.Declarations.{item_pattern, named_pattern};
 ghost use Rattle.dactl_meaning.specs.Sight.{sees};
 ghost use Rattle.dactl_symbols.specs.Scoping.{IsScopesOf, told};
 
+use crate::uses::Pattern;
 use dactl_meaning::tree::{Item, Name, PatternTree, Text};
 use dactl_symbols::sight::{Scopes, Seen};
 
@@ -17,12 +18,20 @@ pub fn seen(text: &Text, scopes: &Scopes, owner: usize, name: &Name) -> Option<S
     scopes.look(owner, name.text.as_slice())
 }
 
-pub fn named_tree<'a>(text: &'a Text, owner: usize, item: usize) -> Option<&'a PatternTree>
-    ensures { option_copied result ≡ named_pattern text.now owner item }
+fn item_tree(item: &Item) -> Option<&PatternTree>
+    ensures { option_copied result ≡ item_pattern item.now }
 {
-    let found = text.modules.get(owner)?;
-    match found.items.get(item)? {
+    match item {
         Item::Named { pattern, .. } => Some(pattern),
-        _ => None,
+        Item::Imports { .. } | Item::Symbols { .. } | Item::Rules { .. } | Item::Initial { .. } =>
+            None,
     }
+}
+
+/// The tree of the named pattern of these numbers, if there is one.
+pub fn named_tree<'a>(text: &'a Text, pattern: Pattern) -> Option<&'a PatternTree>
+    ensures { option_copied result ≡ named_pattern text.now pattern.0 pattern.1 }
+{
+    let module = text.modules.get(pattern.0)?;
+    item_tree(module.items.get(pattern.1)?)
 }

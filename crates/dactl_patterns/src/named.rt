@@ -1,7 +1,7 @@
 //! The named patterns of a text, each looked through once, after those that it names.
 
-ghost use Rattle.std.specs.Prelude.{◌≡◌, ℕ, suc, length, vec_len, IfOk, OnOk};
-ghost use Rattle.dactl_meaning.specs.Expansion.{named_count, named_expansion};
+ghost use Rattle.std.specs.Prelude.{◌≡◌, length, vec_len, IfOk, OnOk};
+ghost use Rattle.dactl_meaning.specs.Expansion.{named_count};
 ghost use Rattle.dactl_meaning.specs.Faults.{TellsFaults};
 ghost use Rattle.dactl_meaning.specs.Meaning.{CycleFault};
 ghost use Rattle.dactl_symbols.specs.Scoping.{IsScopesOf};
@@ -13,6 +13,7 @@ use crate::expanding::{Expander, Small};
 use crate::heads::head_symbol;
 use crate::levels::{level, levels};
 use crate::lookups::named_tree;
+use crate::uses::{Pattern, Web};
 use dactl_base::refusal::TextFault;
 use dactl_meaning::tree::{PatternTree, Text};
 use dactl_model::Memory;
@@ -37,7 +38,7 @@ pub struct Known {
 pub struct NamedPatterns<'a> {
     pub text: &'a Text,
     pub scopes: &'a Scopes,
-    pub(crate) known: IndexMap<(usize, usize), Known>,
+    pub(crate) known: IndexMap<Pattern, Known>,
 }
 
 /// Looks through the named pattern whose tree this is.
@@ -61,14 +62,14 @@ fn look_through(
     Ok(Known { head, small })
 }
 
-fn enter(alloc: Global, patterns: &mut NamedPatterns, pattern: Declared) -> Result<(), Memory>
+fn enter(alloc: Global, patterns: &mut NamedPatterns, pattern: Pattern) -> Result<(), Memory>
     requires { IsScopesOf patterns.old.text.now patterns.old.scopes.now }
     ensures same { spec.IsSameText patterns.old patterns.new }
-    ensures right { OnOk result ((d : ℕ) → spec.IsRight (named_expansion patterns.old.text.now d) patterns.old → spec.IsRight (named_expansion patterns.old.text.now (suc d)) patterns.old → spec.IsRight (named_expansion patterns.old.text.now (suc d)) patterns.new) }
+    ensures right { OnOk result (spec.Deepens patterns.old patterns.new) }
 {
-    if let Some(tree) = named_tree(patterns.text, pattern.owner, pattern.item) {
-        let known = look_through(alloc, patterns, pattern.owner, tree)?;
-        patterns.known.insert((pattern.owner, pattern.item), known)?;
+    if let Some(tree) = named_tree(patterns.text, pattern) {
+        let known = look_through(alloc, patterns, pattern.0, tree)?;
+        patterns.known.insert(pattern, known)?;
     }
     Ok(())
 }
@@ -90,8 +91,8 @@ fn entered<'a>(
         scopes,
         known: IndexMap::new(alloc),
     };
-    for pattern in order {
-        enter(alloc, &mut patterns, *pattern)?;
+    for declared in order {
+        enter(alloc, &mut patterns, declared.pattern)?;
     }
     Ok(patterns)
 }
@@ -103,12 +104,17 @@ fn ordered(alloc: Global, text: &Text, scopes: &Scopes) -> Result<Vec<Declared>,
     ensures faults { TellsFaults (CycleFault text.now) result }
     ensures count { IfOk result (λ order. vec_len order ≡ named_count text.now) }
 {
+    let web = Web {
+        alloc,
+        text,
+        scopes,
+    };
     let mut order = declarations(alloc, text)?;
-    let levels = levels(alloc, text, scopes, order.as_slice())?;
-    if let Some(refusal) = first_cycle(alloc, text, scopes, &levels, order.as_slice())? {
+    let levels = levels(&web, order.as_slice())?;
+    if let Some(refusal) = first_cycle(&web, &levels, order.as_slice())? {
         return Err(TextFault::Refused(refusal));
     }
-    order.sort_by_key(|pattern| level(&levels, (pattern.owner, pattern.item)))?;
+    order.sort_by_key(|declared| level(&levels, declared.pattern))?;
     Ok(order)
 }
 

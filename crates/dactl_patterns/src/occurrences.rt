@@ -1,12 +1,12 @@
-//! The places of variables in a pattern.
+//! What stands in a pattern: the places of its variables, and its uses of names.
 
-ghost use Rattle.std.specs.Prelude.{◌≡◌, ◌++◌, OnOk, map, true, false};
-ghost use Rattle.std.specs.List.{flat_map};
+ghost use Rattle.std.specs.Prelude.{◌≡◌, [], ◌∷◌, OnOk, IfOk};
 ghost use Rattle.dactl_meaning.specs.Expansion as spec;
-ghost use Rattle.dactl_patterns.specs.Occurring.{seen, link_occurrences};
+ghost use Rattle.dactl_patterns.specs.Occurring.{place_at, Puts, HasFound};
+ghost use Rattle.dactl_patterns.specs.Occurring.{PutsTree, PutsTrees, PutsLinks};
 
 use dactl_meaning::tree::{Name, PatternTree, Sign};
-use std::alloc::AllocError;
+use std::alloc::{AllocError, Global};
 
 /// A place of a variable: whether `:` stands behind it, and whether it stands below `+` or to the
 /// right of `-`.
@@ -17,26 +17,47 @@ pub struct Occurrence<'a> {
     pub in_choice: bool,
 }
 
+/// A use of a symbol or of a named pattern, and how many arguments it is given.
+#[derive(Clone, Copy)]
+pub struct Use<'a> {
+    pub name: &'a Name,
+    pub args: usize,
+}
+
+/// What stands in patterns, in the order of their tokens: the places of variables, and the uses of
+/// symbols and of named patterns.
+#[derive(Drop)]
+pub struct Found<'a> {
+    pub places: Vec<Occurrence<'a>>,
+    pub uses: Vec<Use<'a>>,
+}
+
+fn is_plus(sign: Sign) -> bool
+    ensures { result ≡ spec.is_plus sign }
+{
+    match sign {
+        Sign::Plus => true,
+        Sign::Minus => false,
+    }
+}
+
 /// Whether a `+` stands among these links of a chain.
 pub fn has_plus(rest: &[(Sign, PatternTree)]) -> bool
     ensures { result ≡ spec.has_plus rest.now }
 {
     for link in rest {
-        if link.0 == Sign::Plus {
+        if is_plus(link.0) {
             return true;
         }
     }
     false
 }
 
-/// Puts the places of variables in the pattern at the end of `out`.
-#[cycle(occurrences)]
-pub fn occurrences<'a>(
-    out: &mut Vec<Occurrence<'a>>,
-    tree: &'a PatternTree,
-    choice: bool,
-) -> Result<(), AllocError>
-    ensures { OnOk result (map seen out.new.items ≡ map seen out.old.items ++ spec.occurrences_in tree.now choice) }
+/// Puts what stands in the pattern at the ends of the lists. `choice` says whether the pattern
+/// itself stands below `+` or to the right of `-`.
+#[cycle(put)]
+fn put<'a>(found: &mut Found<'a>, tree: &'a PatternTree, choice: bool) -> Result<(), AllocError>
+    ensures { OnOk result (PutsTree choice tree.now found.old found.new) }
 {
     match tree {
         PatternTree::Any
@@ -44,53 +65,78 @@ pub fn occurrences<'a>(
         | PatternTree::Char
         | PatternTree::Integer { .. }
         | PatternTree::Letter { .. } => Ok(()),
-        PatternTree::Sym { args, .. } => in_arguments(out, args.as_slice(), choice),
-        PatternTree::Variable { name } => {
-            out.push(Occurrence {
-                name,
-                given: false,
-                in_choice: choice,
-            })?;
-            Ok(())
+        PatternTree::Sym { name, args } => {
+            let args = args.as_slice();
+            put_use(found, name, args.len())?;
+            put_arguments(found, args, choice)
         }
+        PatternTree::Variable { name } => put_place(found, name, false, choice),
         PatternTree::Binder { name, inner } => {
-            out.push(Occurrence {
-                name,
-                given: true,
-                in_choice: choice,
-            })?;
-            occurrences(out, inner.get(), choice)
+            put_place(found, name, true, choice)?;
+            put(found, inner.get(), choice)
         }
         PatternTree::Chain { first, rest } => {
-            occurrences(out, first.get(), choice || has_plus(rest.as_slice()))?;
-            in_links(out, rest.as_slice())
+            put(found, first.get(), choice || has_plus(rest.as_slice()))?;
+            put_links(found, rest.as_slice())
         }
     }
 }
 
-#[cycle(occurrences)]
-fn in_arguments<'a>(
-    out: &mut Vec<Occurrence<'a>>,
+fn put_place<'a>(
+    found: &mut Found<'a>,
+    name: &'a Name,
+    given: bool,
+    in_choice: bool,
+) -> Result<(), AllocError>
+    ensures { OnOk result (Puts found.old found.new (place_at name.now given in_choice ∷ []) []) }
+{
+    found.places.push(Occurrence {
+        name,
+        given,
+        in_choice,
+    })?;
+    Ok(())
+}
+
+fn put_use<'a>(found: &mut Found<'a>, name: &'a Name, args: usize) -> Result<(), AllocError>
+    ensures { OnOk result (Puts found.old found.new [] ((name.now, args) ∷ [])) }
+{
+    found.uses.push(Use { name, args })?;
+    Ok(())
+}
+
+#[cycle(put)]
+fn put_arguments<'a>(
+    found: &mut Found<'a>,
     args: &'a [PatternTree],
     choice: bool,
 ) -> Result<(), AllocError>
-    ensures { OnOk result (map seen out.new.items ≡ map seen out.old.items ++ flat_map (λ a. spec.occurrences_in a choice) args.now) }
+    ensures { OnOk result (PutsTrees choice args.now found.old found.new) }
 {
     for argument in args {
-        occurrences(out, argument, choice)?;
+        put(found, argument, choice)?;
     }
     Ok(())
 }
 
-#[cycle(occurrences)]
-fn in_links<'a>(
-    out: &mut Vec<Occurrence<'a>>,
-    rest: &'a [(Sign, PatternTree)],
-) -> Result<(), AllocError>
-    ensures { OnOk result (map seen out.new.items ≡ map seen out.old.items ++ flat_map link_occurrences rest.now) }
+#[cycle(put)]
+fn put_links<'a>(found: &mut Found<'a>, rest: &'a [(Sign, PatternTree)]) -> Result<(), AllocError>
+    ensures { OnOk result (PutsLinks rest.now found.old found.new) }
 {
     for link in rest {
-        occurrences(out, &link.1, true)?;
+        put(found, &link.1, true)?;
     }
     Ok(())
+}
+
+/// What stands in the pattern.
+pub fn found_in<'a>(alloc: Global, tree: &'a PatternTree) -> Result<Found<'a>, AllocError>
+    ensures { IfOk result (λ found. HasFound found tree.now) }
+{
+    let mut found = Found {
+        places: Vec::new(alloc),
+        uses: Vec::new(alloc),
+    };
+    put(&mut found, tree, false)?;
+    Ok(found)
 }

@@ -1,20 +1,20 @@
 //! A pattern of a text: its variables, its first fault and its expansion.
 
-ghost use Rattle.std.specs.Prelude.{◌≡◌, ◌&&◌, not, nat_lt, length, IfOk, Contains, map};
+ghost use Rattle.std.specs.Prelude.{◌≡◌, ◌&&◌, not, nat_lt, length, IfOk, Contains};
 ghost use Rattle.std.specs.Option.{option_copied};
 ghost use Rattle.dactl_meaning.specs.Faults.{TellsFaults};
 ghost use Rattle.dactl_meaning.specs.Expansion as spec;
 ghost use Rattle.dactl_meaning.specs.RuleFaults.{pattern_faults};
 ghost use Rattle.dactl_symbols.specs.Scoping.{IsScopesOf};
-ghost use Rattle.dactl_patterns.specs.Occurring.{seen};
-ghost use Rattle.dactl_patterns.specs.Expanded.{IsExamined, IsExpanded, IsExpansion, variables_counted};
+ghost use Rattle.dactl_patterns.specs.Expanded.{variables_counted};
+ghost use Rattle.dactl_patterns.specs.Expanded.{IsExamined, IsExpanded, IsExpansion};
 ghost use Rattle.dactl_patterns.specs.Table.{AreNamed};
 
 use crate::expanding::Expander;
 use crate::faults::first_fault;
 use crate::named::{MOST_NODES, NamedPatterns, named_patterns};
 use crate::names::variables;
-use crate::occurrences::{Occurrence, occurrences};
+use crate::occurrences::found_in;
 use dactl_base::refusal::{Place, Refusal, TextFault};
 use dactl_meaning::tree::{PatternTree, Text};
 use dactl_model::program::Pat;
@@ -39,14 +39,6 @@ pub struct Examined {
 pub struct Expanded {
     pub pat: Pat,
     pub variables: Items<Items<u8>>,
-}
-
-fn places<'a>(alloc: Global, tree: &'a PatternTree) -> Result<Vec<Occurrence<'a>>, AllocError>
-    ensures { IfOk result (λ places. map seen places.items ≡ spec.occurrences tree.now) }
-{
-    let mut found = Vec::new(alloc);
-    occurrences(&mut found, tree, false)?;
-    Ok(found)
 }
 
 /// Whether a rule's pattern has too many variables.
@@ -107,10 +99,10 @@ pub fn examine(
     requires { AreNamed patterns.now }
     ensures { IfOk result (IsExamined patterns.now.text.now owner named place.byte tree.now) }
 {
-    let found = places(alloc, tree)?;
-    let variables = variables(alloc, found.as_slice())?;
+    let found = found_in(alloc, tree)?;
+    let variables = variables(alloc, found.places.as_slice())?;
     let pat = expansion(alloc, patterns, owner, named, variables.as_slice(), tree)?;
-    let fault = first_fault(alloc, found.as_slice(), tree, named, pat.is_none(), place)?;
+    let fault = first_fault(alloc, &found, named, pat.is_none(), place)?;
     Ok(Examined {
         variables,
         fault,
@@ -130,7 +122,8 @@ pub fn pattern(
     tree: &PatternTree,
 ) -> Result<Expanded, TextFault>
     requires { IsScopesOf text.now scopes.now }
-    ensures faults { TellsFaults (Contains (pattern_faults text.now owner named place.byte tree.now)) result }
+    ensures faults { TellsFaults
+        (Contains (pattern_faults text.now owner named place.byte tree.now)) result }
     ensures expanded { IfOk result (IsExpanded text.now owner named tree.now) }
 {
     let Ok(patterns) = named_patterns(alloc, text, scopes) else {

@@ -2,7 +2,7 @@ use Rattle.std.proofs.Common.{arith}
 use Rattle.std.proofs.lemmas.Grind.{common_steps}
 use Rattle.dactl_patterns.specs.Occurring.{seen}
 use Rattle.dactl_patterns.specs.TreeFaults as spec
-use Rattle.dactl_patterns.proofs.Growing.{flat_map-map}
+use Rattle.std.proofs.lemmas.List.Folds.{flat_map-map}
 use Rattle.dactl_patterns.proofs.faults.binders.Goals as goal
 
 pub returns : goal.returns

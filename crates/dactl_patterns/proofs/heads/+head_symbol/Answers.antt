@@ -1,36 +1,29 @@
-use Rattle.std.proofs.Common.{◌≡◌, Bool, true, false, map, None, sym, ap, ◌∙◌, if◌then◌else◌}
+use Rattle.std.proofs.Common.{◌≡◌, Bool, true, false, map, None, refl, sym, ap, ◌∙◌, if◌then◌else◌}
 use Rattle.std.proofs.lemmas.Result.{IfOk-weaker}
 use Rattle.dactl_model.specs.Binders.{head}
 use Rattle.dactl_meaning.specs.declared.tree.PatternTree.{PatternTree}
+use Rattle.dactl_meaning.specs.declared.tree.PatternTree.TheOpen.{PatternTree-F}
+use Rattle.dactl_meaning.specs.declared.tree.PatternTree.TheVariants.{rolls-Any, rolls-Int, rolls-Char, rolls-Integer, rolls-Letter}
+use Rattle.dactl_model.specs.declared.program.Pat.TheOpen.{Pat-F}
 use Rattle.dactl_meaning.specs.Expansion.{has_plus, expansion_by}
 use Rattle.dactl_meaning.specs.Sight.{sees}
-use Rattle.dactl_patterns.proofs.HeadLayers.{head_any, head_int, head_char, head_integer, head_letter, head_variable, head_symbol, head_binder, head_of_chain}
+use Rattle.dactl_patterns.proofs.HeadLayers.{head_leaf, head_variable, head_symbol, head_binder, head_of_chain}
 use Rattle.dactl_patterns.proofs.heads.+head_symbol.Goals as goal
 
 pub returns-in-Any : goal.returns-in-Any
-returns-in-Any t c = λ named variables right.
-    let look = sees c.args.patterns.now.text.now c.args.owner in
-    sym (ap (λ (z : PatternTree). head (expansion_by look named variables z)) c.in-Any.is ∙ head_any look named variables)
+returns-in-Any t c = λ named variables right. sym (head_leaf (sees c.args.patterns.now.text.now c.args.owner) named variables c.args.tree.now PatternTree-F.Any Pat-F.Any (c.in-Any.is ∙ sym rolls-Any) refl refl)
 
 pub returns-in-Int : goal.returns-in-Int
-returns-in-Int t c = λ named variables right.
-    let look = sees c.args.patterns.now.text.now c.args.owner in
-    sym (ap (λ (z : PatternTree). head (expansion_by look named variables z)) c.in-Int.is ∙ head_int look named variables)
+returns-in-Int t c = λ named variables right. sym (head_leaf (sees c.args.patterns.now.text.now c.args.owner) named variables c.args.tree.now PatternTree-F.Int Pat-F.Int (c.in-Int.is ∙ sym rolls-Int) refl refl)
 
 pub returns-in-Char : goal.returns-in-Char
-returns-in-Char t c = λ named variables right.
-    let look = sees c.args.patterns.now.text.now c.args.owner in
-    sym (ap (λ (z : PatternTree). head (expansion_by look named variables z)) c.in-Char.is ∙ head_char look named variables)
+returns-in-Char t c = λ named variables right. sym (head_leaf (sees c.args.patterns.now.text.now c.args.owner) named variables c.args.tree.now PatternTree-F.Char Pat-F.Char (c.in-Char.is ∙ sym rolls-Char) refl refl)
 
 pub returns-in-Integer : goal.returns-in-Integer
-returns-in-Integer t c = λ named variables right.
-    let look = sees c.args.patterns.now.text.now c.args.owner in
-    sym (ap (λ (z : PatternTree). head (expansion_by look named variables z)) c.in-Integer.is ∙ head_integer look named variables c.in-Integer.value)
+returns-in-Integer t c = λ named variables right. sym (head_leaf (sees c.args.patterns.now.text.now c.args.owner) named variables c.args.tree.now (PatternTree-F.Integer c.in-Integer.value) (Pat-F.Literal c.in-Integer.value) (c.in-Integer.is ∙ sym (rolls-Integer c.in-Integer.value)) refl refl)
 
 pub returns-in-Letter : goal.returns-in-Letter
-returns-in-Letter t c = λ named variables right.
-    let look = sees c.args.patterns.now.text.now c.args.owner in
-    sym (ap (λ (z : PatternTree). head (expansion_by look named variables z)) c.in-Letter.is ∙ head_letter look named variables c.in-Letter.value)
+returns-in-Letter t c = λ named variables right. sym (head_leaf (sees c.args.patterns.now.text.now c.args.owner) named variables c.args.tree.now (PatternTree-F.Letter c.in-Letter.value) (Pat-F.Letter c.in-Letter.value) (c.in-Letter.is ∙ sym (rolls-Letter c.in-Letter.value)) refl refl)
 
 pub returns-in-Variable : goal.returns-in-Variable
 returns-in-Variable t c = λ named variables right.

@@ -1,4 +1,4 @@
-use Rattle.std.proofs.Common.{◌≡◌, List, sym, ◌∙◌, subst}
+use Rattle.std.proofs.Common.{◌-◌, ◌≤◌, List, sym, ◌∙◌, subst, arith}
 use Rattle.std.specs.Prelude.{Contains}
 use Rattle.std.proofs.lemmas.List.Elements.{All-contains}
 use Rattle.dactl_meaning.specs.Meaning.{NamedPattern}
@@ -7,7 +7,10 @@ use Rattle.dactl_patterns.proofs.Descending.{is_free}
 use Rattle.dactl_patterns.proofs.levels.is_free.Goals as goal
 
 pub returns : goal.returns
-returns c = λ elsewhere.
-    is_free c.args.text.now (level_in c.args.levels.now) c.args.pattern c.requires.levels
-    (λ b has same. All-contains (λ (a : NamedPattern). ¬ (level_in c.args.levels.now a ≡ c.level.result)) c.as_slice.result.now b (c.are_elsewhere.ensures elsewhere)
-    (subst (λ (l : List NamedPattern). Contains l b) (sym (c.as_slice.ensures.value ∙ c.in_ok-names.ensures)) has) (same ∙ sym c.level.ensures))
+returns c = λ below.
+    is_free c.args.web.now.text.now (level_in c.args.levels.now) c.args.pattern c.requires
+    (λ b has.
+    let lower : level_in c.args.levels.now b ≤ c.level-own.result - 1 =
+    All-contains (λ (a : NamedPattern). level_in c.args.levels.now a ≤ c.level-own.result - 1) c.as_slice.result.now b (c.are_below.ensures below)
+    (subst (λ (l : List NamedPattern). Contains l b) (sym (c.as_slice.ensures.value ∙ c.in_ok-names.ensures)) has) in
+    omega (arith, c.level-own.ensures))
