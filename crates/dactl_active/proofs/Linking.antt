@@ -1,13 +1,70 @@
 -- What a number that goes in at the back, or comes out, leaves of the links.
-use Rattle.std.proofs.Common.{◌≡◌, ◌≢◌, ℕ, ◌+◌, ◌-◌, ◌<◌, ◌≤◌, Bool, true, false, ◌||◌, eqb, List, [], ◌∷◌, ◌++◌, length, refl, sym, ap, subst, ◌∙◌, arith, inl, inr}
-use Rattle.std.proofs.lemmas.Bool.{eqb-true, eqb-false, eq-eqb, ne_eqb, or_left, or_right, both_ways, cases_Bool, cond-true, cond-false}
+use Rattle.std.proofs.Common.{◌≡◌, ◌≢◌, ℕ, ◌+◌, ◌-◌, ◌<◌, ◌≤◌, Bool, true, false, ◌||◌, eqb, cond, List, [], ◌∷◌, ◌++◌, length, get_or, set, refl, sym, ap, subst, ◌∙◌, arith, inl, inr, length-set}
+use Rattle.std.proofs.lemmas.Bool.{eqb-true, eqb-false, eq-eqb, ne_eqb, or_left, or_right, both_ways, cases_Bool, cases_eq, cond-true, cond-false}
 use Rattle.std.proofs.lemmas.Bool.Decides.{nat_tests}
-use Rattle.std.proofs.lemmas.List.{length_push}
+use Rattle.std.proofs.lemmas.List.{get_or-set_other, get_or-set_same, length_push}
 use Rattle.std.proofs.lemmas.List.Folds.{list_any-append}
-use Rattle.dactl_active.specs.declared.ring.Place.{Place}
+use Rattle.dactl_active.specs.declared.places.Place.{Place}
 use Rattle.dactl_active.specs.Ring.{has, without, IsValid}
+use Rattle.dactl_active.specs.Round.{blank}
 use Rattle.dactl_active.specs.Places.{next_of, previous_of, Joins, Links, following, Lacks, AreApart, IsRing, Rejoins, Marks}
 use Rattle.dactl_active.proofs.Numbers.{IsDistinct-from_apart, Lacks-from_has, differs, Lacks-push, AreApart-push, length-apart, without-lacking, has-without, AreApart-without, length-without}
+
+place_set : (places : List Place) (a n : ℕ) (place : Place) → a < length places → get_or (set places a place) n blank ≡ cond (eqb n a) place (get_or places n blank)
+place_set places a n place inside = elim (cases_eq n a) [
+  | inl same ↦
+      ap (λ k. get_or (set places a place) k blank) same ∙ get_or-set_same places a place blank inside
+      ∙ sym (cond-true (eqb n a) place (get_or places n blank) (eq-eqb n a same))
+  | inr other ↦ get_or-set_other places a n place blank other ∙ sym (cond-false (eqb n a) place (get_or places n blank) (ne_eqb n a other))
+]
+
+-- one field of a place is written
+kept_field : {X : Type 0} (field : Place → X) (old new : List Place) (a : ℕ) (from place : Place) → a < length old → from ≡ get_or old a blank → new ≡ set old a place → field place ≡ field from → (n : ℕ) → field (get_or new n blank) ≡ field (get_or old n blank)
+kept_field field old new a from place inside read written same n = elim (cases_eq n a) [
+  | inl here ↦
+      ap (λ ps. field (get_or ps n blank)) written ∙ ap field (place_set old a n place inside ∙ cond-true (eqb n a) place (get_or old n blank) (eq-eqb n a here))
+      ∙ same ∙ ap field (read ∙ ap (λ k. get_or old k blank) (sym here))
+  | inr there ↦ ap (λ ps. field (get_or ps n blank)) written ∙ ap field (place_set old a n place inside ∙ cond-false (eqb n a) place (get_or old n blank) (ne_eqb n a there))
+]
+
+new_field : {X : Type 0} (field : Place → X) (old new : List Place) (a : ℕ) (place : Place) (x : X) → a < length old → new ≡ set old a place → field place ≡ x → (n : ℕ) → field (get_or new n blank) ≡ cond (eqb n a) x (field (get_or old n blank))
+new_field field old new a place x inside written is n = elim (cases_eq n a) [
+  | inl here ↦
+      ap (λ ps. field (get_or ps n blank)) written ∙ ap field (place_set old a n place inside ∙ cond-true (eqb n a) place (get_or old n blank) (eq-eqb n a here))
+      ∙ is ∙ sym (cond-true (eqb n a) x (field (get_or old n blank)) (eq-eqb n a here))
+  | inr there ↦
+      ap (λ ps. field (get_or ps n blank)) written ∙ ap field (place_set old a n place inside ∙ cond-false (eqb n a) place (get_or old n blank) (ne_eqb n a there))
+      ∙ sym (cond-false (eqb n a) x (field (get_or old n blank)) (ne_eqb n a there))
+]
+
+pub rejoined : (old mid new : List Place) (before after : ℕ) (from to : Place) → before < length old → after < length old
+    → from ≡ get_or old before blank → mid ≡ set old before (record from { next = after })
+    → to ≡ get_or mid after blank → new ≡ set mid after (record to { previous = before }) → Rejoins old new before after
+rejoined old mid new before after from to before_in after_in read first read_again second =
+    let one : Place = record from { next = after } in
+    let other : Place = record to { previous = before } in
+    let first_long : length mid ≡ length old = ap length first ∙ length-set old before one in
+    let inside : after < length mid = omega arith in
+    record {
+      long = ap length second ∙ length-set mid after other ∙ first_long;
+      next = λ n. kept_field (λ p. p.next) mid new after to other inside read_again second refl n ∙ new_field (λ p. p.next) old mid before one after before_in first refl n;
+      previous = λ n.
+          new_field (λ p. p.previous) mid new after other before inside second refl n
+          ∙ ap (cond (eqb n after) before) (kept_field (λ p. p.previous) old mid before from one before_in read first refl n);
+      present = λ n.
+          kept_field (λ p. p.present) mid new after to other inside read_again second refl n
+          ∙ kept_field (λ p. p.present) old mid before from one before_in read first refl n;
+    }
+
+pub remarked : (old new : List Place) (n : ℕ) (present : Bool) (at : Place) → n < length old → at ≡ get_or old n blank → new ≡ set old n (record at { present = present }) → Marks old new n present
+remarked old new n present at inside read written =
+    let place : Place = record at { present = present } in
+    record {
+      long = ap length written ∙ length-set old n place;
+      next = kept_field (λ p. p.next) old new n at place inside read written refl;
+      previous = kept_field (λ p. p.previous) old new n at place inside read written refl;
+      marked = new_field (λ p. p.present) old new n place present inside written refl;
+    }
 
 -- the numbers linked after a are those that following reads
 pub following_is : (places : List Place) (a : ℕ) (xs : List ℕ) (z : ℕ) → Links places a xs z → following places a (length xs) ≡ xs
@@ -168,32 +225,32 @@ valid places room count ring = record {
   below = ring.below;
 }
 
--- The fields of a ring, and the slice that its places are written through.
-module _ (places slice : List Place) (room count : ℕ) (ring : IsRing places room count (following places room count)) (same : slice ≡ places) where
-  in_range : (k : ℕ) → has (room ∷ following places room count) k ≡ true → k < length slice
-  in_range k within = grind (arith, nat_tests, ring.below k, ring.long, ap length same)
+-- The fields of a ring.
+module _ (places : List Place) (room count : ℕ) (ring : IsRing places room count (following places room count)) where
+  in_range : (k : ℕ) → has (room ∷ following places room count) k ≡ true → k < length places
+  in_range k within = grind (arith, nat_tests, ring.below k, ring.long)
 
-  pub back_in_range : previous_of slice room < length slice
-  back_in_range = in_range (previous_of slice room) (subst (λ s. has (room ∷ following places room count) (previous_of s room) ≡ true) (sym same) (last_within places room (following places room count) room ring.linked))
+  pub back_in_range : (anchor : Place) → anchor ≡ get_or places room blank → anchor.previous < length places
+  back_in_range anchor read =
+      subst (λ p. p.previous < length places) (sym read) (in_range (previous_of places room) (last_within places room (following places room count) room ring.linked))
 
   module _ (n : ℕ) (inside : n < room) where
-    pub inserted_fields : (mid joined new items : List Place) → Rejoins slice mid (previous_of slice room) n → Rejoins mid joined n room → Marks joined new n true → items ≡ new → has (following places room count) n ≡ false → IsRing items room (count + 1) (following places room count ++ n ∷ [])
-    inserted_fields mid joined new items first second marks written absent =
-        let from : Rejoins places mid (previous_of places room) n = subst (λ s. Rejoins s mid (previous_of s room) n) same first in
-        subst (λ ps. IsRing ps room (count + 1) (following places room count ++ n ∷ [])) (sym written) (IsRing-inserted places room count (following places room count) n ring inside mid joined new from second marks absent)
+    pub inserted_fields : (mid joined new : List Place) (anchor : Place) → anchor ≡ get_or places room blank → Rejoins places mid anchor.previous n → Rejoins mid joined n room → Marks joined new n true → has (following places room count) n ≡ false → IsRing new room (count + 1) (following places room count ++ n ∷ [])
+    inserted_fields mid joined new anchor read first second marks absent =
+        IsRing-inserted places room count (following places room count) n ring inside mid joined new (subst (λ p. Rejoins places mid p.previous n) read first) second marks absent
 
-    pub removed_fields : (joined new items : List Place) → Rejoins slice joined (previous_of slice n) (next_of slice n) → Marks joined new n false → items ≡ new → has (following places room count) n ≡ true → IsRing items room (count - 1) (without (following places room count) n)
-    removed_fields joined new items rejoins marks written present =
-        let from : Rejoins places joined (previous_of places n) (next_of places n) = subst (λ s. Rejoins s joined (previous_of s n) (next_of s n)) same rejoins in
-        subst (λ ps. IsRing ps room (count - 1) (without (following places room count) n)) (sym written) (IsRing-removed places room count (following places room count) n ring inside joined new from marks present)
+    module _ (at : Place) (read : at ≡ get_or places n blank) (present : has (following places room count) n ≡ true) where
+      pub removed_fields : (joined new : List Place) → Rejoins places joined at.previous at.next → Marks joined new n false → IsRing new room (count - 1) (without (following places room count) n)
+      removed_fields joined new rejoins marks =
+          IsRing-removed places room count (following places room count) n ring inside joined new (subst (λ p. Rejoins places joined p.previous p.next) read rejoins) marks present
 
-    pub previous_in_range : has (following places room count) n ≡ true → previous_of slice n < length slice
-    previous_in_range present =
-        in_range (previous_of slice n) (subst (λ s. has (room ∷ following places room count) (previous_of s n) ≡ true) (sym same) (previous_within places room (following places room count) room n ring.linked present))
+      pub previous_in_range : at.previous < length places
+      previous_in_range =
+          subst (λ p. p.previous < length places) (sym read) (in_range (previous_of places n) (previous_within places room (following places room count) room n ring.linked present))
 
-    pub next_in_range : has (following places room count) n ≡ true → next_of slice n < length slice
-    next_in_range present =
-        let after = next_within places room (following places room count) room n ring.linked present in
-        let split = list_any-append (eqb (next_of places n)) (following places room count) (room ∷ []) in
-        let within : has (room ∷ following places room count) (next_of places n) ≡ true = grind (arith, nat_tests, split, after) in
-        in_range (next_of slice n) (subst (λ s. has (room ∷ following places room count) (next_of s n) ≡ true) (sym same) within)
+      pub next_in_range : at.next < length places
+      next_in_range =
+          let after = next_within places room (following places room count) room n ring.linked present in
+          let split = list_any-append (eqb (next_of places n)) (following places room count) (room ∷ []) in
+          let within : has (room ∷ following places room count) (next_of places n) ≡ true = grind (arith, nat_tests, split, after) in
+          subst (λ p. p.next < length places) (sym read) (in_range (next_of places n) within)

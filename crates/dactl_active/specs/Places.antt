@@ -1,11 +1,8 @@
 -- How a ring links its numbers. No public clause cites this module.
 use Rattle.std.specs.Prelude.{◌≡◌, ◌≢◌, ℕ, zero, suc, ◌+◌, ◌<◌, ◌^◌, ◌==◌, Bool, true, false, List, [], ◌∷◌, length, slice_index_or, if◌then◌else◌}
-use Rattle.dactl_active.specs.declared.ring.Place.{Place}
+use Rattle.dactl_active.specs.declared.places.Place.{Place}
 use Rattle.dactl_active.specs.Ring.{has}
-
--- a place that is in no ring
-abbrev pub blank : Place
-blank = record { next = 0; previous = 0; present = false }
+use Rattle.dactl_active.specs.Round.{blank}
 
 abbrev pub next_of : List Place → ℕ → ℕ
 next_of places n = (slice_index_or places n blank).next

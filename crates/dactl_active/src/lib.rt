@@ -2,6 +2,7 @@
 //! the ring turns by one, each in constant time.
 #![tactic(auto)]
 
+mod places;
 mod ring;
 #[cfg(test)]
 mod tests;

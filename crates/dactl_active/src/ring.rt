@@ -4,6 +4,7 @@ ghost use Rattle.std.specs.Prelude.{◌≡◌, ◌<◌, [], length, slice_get, I
 ghost use Rattle.dactl_active.specs.Ring.{has, inserted, without, turned, IsValid};
 ghost use Rattle.dactl_active.specs.Places.{Rejoins, Marks};
 
+use crate::places::{Place, Places};
 use std::alloc::{AllocError, Global};
 use std::marker::Model;
 
@@ -14,21 +15,14 @@ pub type Memory = AllocError;
 ///
 /// A scheduler keeps in it what is waiting for its turn: what is new goes to the back, what is done is
 /// taken out, and after each look at the front the ring turns, so that each number comes to the front.
-/// Each call but `with_room` takes constant time and no memory.
+/// No call but `with_room` takes memory. Each call takes constant time, `insert` on average: a place is written
+/// when its number, or a greater one, is first put in, so numbers that are never used take no time.
 #[derive(Drop)]
 pub struct Ring {
-    // The numbers' places, and behind them the anchor: its next is the front and its previous the back.
-    places: Vec<Place>,
+    // Of the anchor, which comes behind the numbers, the next is the front and the previous the back.
+    places: Places,
     room: u32,
     count: u32,
-}
-
-/// Where a number stands. What it says of its neighbors counts while the number is present.
-#[derive(Clone, Copy, Drop)]
-struct Place {
-    next: u32,
-    previous: u32,
-    present: bool,
 }
 
 impl Model for Ring {
@@ -38,31 +32,55 @@ impl Model for Ring {
 
     ghost use Rattle.dactl_active.specs.Places.{following, IsRing};
 
-    ghost view = { λ r. record { numbers = following r.places.items r.room r.count; room = r.room } };
+    ghost view = { λ r. record {
+      numbers = following r.places r.room r.count;
+      room = r.room;
+    } };
 
-    ghost invariant = { λ r. IsRing r.places.items r.room r.count (following r.places.items r.room r.count) };
+    ghost invariant = { λ r.
+        IsRing r.places r.room r.count (following r.places r.room r.count) };
 }
 
 // Makes `after` the one that follows `before`.
-fn join(places: &mut [Place], before: u32, after: u32)
+fn join(places: &mut Places, before: u32, after: u32)
     requires before_in_range { before < length places.old }
     requires after_in_range { after < length places.old }
     ensures { Rejoins places.old places.new before after }
 {
-    places[before as usize].next = after;
-    places[after as usize].previous = before;
+    let from = places.get(before);
+    places.set(
+        before,
+        Place {
+            next: after,
+            ..from
+        },
+    );
+    let to = places.get(after);
+    places.set(
+        after,
+        Place {
+            previous: before,
+            ..to
+        },
+    );
 }
 
 // Says of n whether it is in the ring.
-fn mark(places: &mut [Place], n: u32, present: bool)
+fn mark(places: &mut Places, n: u32, present: bool)
     requires { n < length places.old }
     ensures { Marks places.old places.new n present }
 {
-    places[n as usize].present = present;
+    let at = places.get(n);
+    places.set(n, Place { present, ..at });
 }
 
 impl Ring {
-    /// A ring of no numbers, with room for those below `numbers`.
+    /// A ring of no numbers, with room for those below `numbers`: 12 bytes for each of them. It takes this memory,
+    /// and writes none of it.
+    ///
+    /// # Errors
+    ///
+    /// `Memory` where there is not enough memory.
     pub fn with_room(alloc: Global, numbers: u32) -> Result<Ring, Memory>
         ensures numbers { IfOk result (λ ring. ring.numbers ≡ []) }
         ensures room { IfOk result (λ ring. ring.room ≡ numbers) }
@@ -72,9 +90,8 @@ impl Ring {
             previous: numbers,
             present: false,
         };
-        let places = vec![in alloc; anchor; numbers as usize + 1]?;
         Ok(Ring {
-            places,
+            places: Places::with_room(alloc, numbers, anchor)?,
             room: numbers,
             count: 0,
         })
@@ -93,10 +110,10 @@ impl Ring {
         requires { n < self.now.room }
         ensures { result ≡ has self.now.numbers n }
     {
-        self.places[n as usize].present
+        self.places.get(n).present
     }
 
-    /// The number at the front.
+    /// The number at the front, or `None` where there are no numbers.
     pub fn first(&self) -> Option<u32>
         ensures first { result ≡ slice_get self.now.numbers 0 }
         ensures valid { IsValid self.now }
@@ -104,10 +121,11 @@ impl Ring {
         if self.count == 0 {
             return None;
         }
-        Some(self.places[self.room as usize].next)
+        Some(self.places.get(self.room).next)
     }
 
-    /// Adds the number at the back. One that is in the ring already stays where it is.
+    /// Adds the number at the back. One that is in the ring already stays where it is. It takes constant time on
+    /// average.
     pub fn insert(&mut self, n: u32)
         requires { n < self.old.room }
         ensures numbers { self.new.numbers ≡ inserted self.old.numbers n }
@@ -117,11 +135,10 @@ impl Ring {
             return;
         }
         let anchor = self.room;
-        let places = self.places.as_mut_slice();
-        let back = places[anchor as usize].previous;
-        join(places, back, n);
-        join(places, n, anchor);
-        mark(places, n, true);
+        let back = self.places.get(anchor).previous;
+        join(&mut self.places, back, n);
+        join(&mut self.places, n, anchor);
+        mark(&mut self.places, n, true);
         self.count += 1;
     }
 
@@ -134,10 +151,9 @@ impl Ring {
         if !self.contains(n) {
             return;
         }
-        let places = self.places.as_mut_slice();
-        let Place { next, previous, .. } = places[n as usize];
-        join(places, previous, next);
-        mark(places, n, false);
+        let Place { next, previous, .. } = self.places.get(n);
+        join(&mut self.places, previous, next);
+        mark(&mut self.places, n, false);
         self.count -= 1;
     }
 
