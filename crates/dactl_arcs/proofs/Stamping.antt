@@ -1,5 +1,5 @@
 -- The last change of each arc, where arcs change their lists and lists their slots.
-use Rattle.std.proofs.Common.{◌≡◌, ◌≢◌, ℕ, ◌<◌, ◌≤◌, cond, eqb, ltb, List, [], ◌∷◌, ◌++◌, length, map, take, get_or, set, Some, refl, sym, ap, subst, ◌∙◌, arith, inl, inr, length-set}
+use Rattle.std.proofs.Common.{◌≡◌, ◌≢◌, ℕ, ◌<◌, ◌≤◌, cond, eqb, ltb, List, [], ◌∷◌, ◌++◌, length, map, get_or, set, Some, refl, sym, ap, subst, ◌∙◌, arith, inl, inr, length-set}
 use Rattle.std.specs.List.{All, slice_get, zip}
 use Rattle.std.proofs.lemmas.Bool.{eq-eqb, ne_eqb, le-ltb, cases_eq, cases_Bool, cond-false, cond-true, cond_both, lt-ltb}
 use Rattle.std.proofs.lemmas.Bool.Decides.{nat_tests}
@@ -10,12 +10,13 @@ use Rattle.dactl_arcs.specs.declared.lists.ArcRecord.{ArcRecord}
 use Rattle.dactl_arcs.specs.declared.stamped.ArcStamp.{ArcStamp}
 use Rattle.dactl_arcs.specs.Pool.{Pool, target_of, targets}
 use Rattle.dactl_arcs.specs.Linked.{Linked, IsIn, IsValidLists}
-use Rattle.dactl_arcs.specs.Halves.{seen, target_in}
+use Rattle.dactl_arcs.specs.Slots.{IsHoused, seen, target_in}
 use Rattle.dactl_arcs.specs.Moves.{cleared, idle, moved_to, record_at, sent_to}
 use Rattle.dactl_arcs.specs.Naming.{swapped_slot, swapped}
-use Rattle.dactl_arcs.specs.Stamps.{AreStamped, IsStamped, IsValidStamped, changed_by, changes, change_of, last_change}
+use Rattle.dactl_arcs.specs.Stamps.{AreStamped, IsStamped, IsValidStamped, changed_by, changes, change_of, is_left, last_change}
 use Rattle.dactl_arcs.proofs.Linking.{get_set}
 use Rattle.dactl_arcs.proofs.Naming.{no_arc}
+use Rattle.dactl_arcs.proofs.StampedSlots.{left_housed}
 
 abbrev pub no_stamp : ArcStamp
 no_stamp = record { own = 0; joined = 0 }
@@ -84,30 +85,30 @@ changes-swapped arcs stamps slots from to long different from_in to_in =
     ap (λ x. last_change x (get_or stamps k no_stamp)) (ap (λ x. get_or after x 0) t ∙ same))
 
 -- the stamp of a list is greater than all that its arcs had at joining
-pub changes-stamped : (half : ℕ) (arcs : List ArcRecord) (stamps : List ArcStamp) (slots after : List ℕ) (moves : List (ℕ × ℕ)) (stamp newest : ℕ) → length stamps ≡ length arcs
-    → ((k : ℕ) → k < length arcs → target_of arcs k < length slots) → All (λ s. (s.own ≤ newest) × (s.joined ≤ newest)) stamps → newest < stamp
-    → ((slot : ℕ) → slot < length slots → get_or after slot 0 ≡ cond (eqb (moved_to moves (target_in half slot)) (target_in half slot)) (get_or slots slot 0) stamp)
-    → changes arcs stamps after ≡ changed_by moves stamp (map (seen half) arcs) (changes arcs stamps slots)
-changes-stamped half arcs stamps slots after moves stamp newest long within joined newer each =
+pub changes-stamped : (arcs : List ArcRecord) (stamps : List ArcStamp) (slots after : List ℕ) (moves : List (ℕ × ℕ)) (stamp newest : ℕ) → length stamps ≡ length arcs
+    → ((k : ℕ) → k < length arcs → target_of arcs k < length slots) → All IsHoused arcs → All (λ s. (s.own ≤ newest) × (s.joined ≤ newest)) stamps → newest < stamp
+    → ((slot : ℕ) → slot < length slots → get_or after slot 0 ≡ cond (is_left moves slot) (get_or slots slot 0) stamp)
+    → changes arcs stamps after ≡ changed_by moves stamp (map seen arcs) (changes arcs stamps slots)
+changes-stamped arcs stamps slots after moves stamp newest long within housed joined newer each =
     let old = changes arcs stamps slots in
     let old_long = length-changes arcs stamps slots long in
     let f = λ (p : ArcRecord × ℕ). cond (eqb (moved_to moves p.0.target) p.0.target) p.1 stamp in
     let one = length-changes arcs stamps after long in
-    let by_target = map (seen half) arcs in
-    let targets_long = length-map arcs (seen half) in
+    let by_target = map seen arcs in
+    let targets_long = length-map arcs (seen) in
     let other : length (changed_by moves stamp by_target old) ≡ length arcs = length-map (zip by_target old) f ∙ length-zip by_target old ∙ omega (arith, old_long, targets_long) in
     same_lists (changes arcs stamps after) (changed_by moves stamp by_target old) (one ∙ sym other) (λ k d inside.
     let below : k < length arcs = omega (arith, one) in
     let t = target_of arcs k in
     let s = get_or stamps k no_stamp in
     let before : s.joined ≤ newest = (joined k no_stamp (omega (arith, long))).1 in
-    let n = target_in half t in
+    let n = target_in t in
     let right : get_or (changed_by moves stamp by_target old) k d ≡ cond (eqb (moved_to moves n) n) (last_change (get_or slots t 0) s) stamp =
     get_or-map f (zip by_target old) k (no_arc, 0) d (omega (arith, length-zip by_target old, old_long, targets_long))
     ∙ ap f (get_or-zip by_target old k (no_arc, 0) (omega (arith, targets_long)) (omega (arith, old_long)))
-    ∙ ap (λ a. f (a, get_or old k 0)) (get_or-map (seen half) arcs k no_arc no_arc below)
+    ∙ ap (λ a. f (a, get_or old k 0)) (get_or-map seen arcs k no_arc no_arc below)
     ∙ ap (λ x. cond (eqb (moved_to moves n) n) x stamp) (change_at arcs stamps slots k 0 long below) in
-    change_at arcs stamps after k d long below ∙ ap (λ x. last_change x s) (each t (within k below))
+    change_at arcs stamps after k d long below ∙ ap (λ x. last_change x s) (each t (within k below) ∙ ap (λ b. cond b (get_or slots t 0) stamp) (left_housed moves t (housed k no_arc below)))
     ∙ elim (cases_Bool (eqb (moved_to moves n) n)) [
       | inl stays ↦ ap (λ x. last_change x s) (cond-true (eqb (moved_to moves n) n) (get_or slots t 0) stamp stays) ∙ sym (cond-true (eqb (moved_to moves n) n) (last_change (get_or slots t 0) s) stamp stays)
       | inr goes ↦
@@ -208,8 +209,8 @@ module _ (lists : Linked) (stamps : List ArcStamp) (slots : List ℕ) (newest ca
         ∙ ap (λ x. changes lists.arcs stamps slots ++ x ∷ []) fresh ∙ ap (λ m. m.changed ++ 0 ∷ []) view_is
 
     -- the moves' slots are stamped
-    pub stamped_changes : (half : ℕ) (moves : List (ℕ × ℕ)) (stamp : ℕ) (after : List ℕ) → pool.newest < stamp → AreStamped half moves stamp slots after → IsValidLists lists
-        → changes lists.arcs stamps after ≡ changed_by moves stamp (map (seen half) pool.arcs) pool.changed
-    stamped_changes half moves stamp after newer are valid =
-        changes-stamped half lists.arcs stamps slots after moves stamp newest is.arcs_long (λ k below. omega (arith, valid.within k below, is.slots_long)) is.arcs_old (omega (arith, ap (λ m. m.newest) view_is)) are.each
-        ∙ ap (λ m. changed_by moves stamp (map (seen half) m.arcs) m.changed) view_is
+    pub stamped_changes : (moves : List (ℕ × ℕ)) (stamp : ℕ) (after : List ℕ) → pool.newest < stamp → All IsHoused pool.arcs → AreStamped moves stamp slots after → IsValidLists lists
+        → changes lists.arcs stamps after ≡ changed_by moves stamp (map seen pool.arcs) pool.changed
+    stamped_changes moves stamp after newer housed are valid =
+        changes-stamped lists.arcs stamps slots after moves stamp newest is.arcs_long (λ k below. omega (arith, valid.within k below, is.slots_long)) (subst (λ p. All IsHoused p.arcs) (sym view_is) housed) is.arcs_old (omega (arith, ap (λ m. m.newest) view_is)) are.each
+        ∙ ap (λ m. changed_by moves stamp (map seen m.arcs) m.changed) view_is

@@ -1,6 +1,6 @@
 -- A table of which the front is stored.
 use Rattle.std.proofs.Common.{◌≡◌, ℕ, zero, suc, ◌+◌, ◌-◌, ◌<◌, ◌≤◌, Bool, true, false, List, [], ◌∷◌, ◌++◌, length, get_or, set, map, replicate, None, refl, sym, ap, ◌∙◌, arith, append_assoc, length-append, length-set}
-use Rattle.std.proofs.lemmas.List.{append-nil, get_or_append_left, get_or-append_right, set-append_left}
+use Rattle.std.proofs.lemmas.List.{get_or_append_left, get_or-append_right, set-append_left}
 use Rattle.dactl_arcs.specs.Naming.{IsCounting}
 use Rattle.dactl_arcs.specs.Tables.{initial_at, initials, link_of, table_of, IsTable}
 

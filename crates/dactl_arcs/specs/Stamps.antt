@@ -1,12 +1,13 @@
 -- When each arc last changed its target, without a visit to the arc.
-use Rattle.std.specs.Prelude.{◌≡◌, ℕ, ◌<◌, ◌≤◌, ◌==◌, List, All, map, length, nat_lt, slice_index_or, if◌then◌else◌}
+use Rattle.std.specs.Prelude.{◌≡◌, ℕ, ◌<◌, ◌≤◌, ◌==◌, ◌||◌, Bool, List, All, map, length, nat_lt, slice_index_or, if◌then◌else◌}
 use Rattle.std.specs.List.{zip}
 use Rattle.dactl_arcs.specs.declared.lists.ArcRecord.{ArcRecord}
+use Rattle.dactl_arcs.specs.declared.pool.TheConstants.{MOST_MOVES}
 use Rattle.dactl_arcs.specs.declared.stamped.ArcStamp.{ArcStamp}
 use Rattle.dactl_arcs.specs.Pool.{Pool}
 use Rattle.dactl_arcs.specs.Linked.{Linked, IsValidLists, linked, slot_count}
 use Rattle.dactl_arcs.specs.Moves.{moved_to}
-use Rattle.dactl_arcs.specs.Halves.{target_in}
+use Rattle.dactl_arcs.specs.Slots.{target_in}
 
 -- the last change of an arc: its list's, where that came after the arc had joined it, else its own
 abbrev pub last_change : ℕ → ArcStamp → ℕ
@@ -24,12 +25,16 @@ abbrev pub changed_by : List (ℕ × ℕ) → ℕ → List ArcRecord → List �
 changed_by moves stamp arcs changed =
     map (λ p. if moved_to moves p.0.target == p.0.target then p.1 else stamp) (zip arcs changed)
 
+-- whether the moves leave the arcs of a slot: those in a spare one, and those of a target that they send nowhere else
+abbrev pub is_left : List (ℕ × ℕ) → ℕ → Bool
+is_left moves slot = nat_lt slot MOST_MOVES || (moved_to moves (target_in slot) == target_in slot)
+
 -- both slots of each target that the moves send elsewhere have the stamp, and each other keeps its own
-pub record AreStamped (half : ℕ) (moves : List (ℕ × ℕ)) (stamp : ℕ) (old new : List ℕ) : Type 0 where
+pub record AreStamped (moves : List (ℕ × ℕ)) (stamp : ℕ) (old new : List ℕ) : Type 0 where
   pub long : length new ≡ length old
   pub each : (slot : ℕ) → slot < length old
       → slice_index_or new slot 0
-      ≡ (if moved_to moves (target_in half slot) == target_in half slot then slice_index_or old slot 0 else stamp)
+      ≡ (if is_left moves slot then slice_index_or old slot 0 else stamp)
 
 -- what holds of all lists with stamps
 pub record IsValidStamped (pool : Pool) : Type 0 where

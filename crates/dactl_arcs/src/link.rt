@@ -1,6 +1,7 @@
 //! The number of an arc, or none, in four bytes, and a row of these.
 
-ghost use Rattle.std.specs.Prelude.{◌≡◌, ◌+◌, ◌<◌, ◌^◌, length, replicate, slice_index_or, slice_set, None, Some, IfOk};
+ghost use Rattle.std.specs.Prelude.{◌≡◌, ◌+◌, ◌<◌, ◌^◌, length, replicate, slice_index_or};
+ghost use Rattle.std.specs.Prelude.{slice_set, None, Some, IfOk};
 ghost use Rattle.dactl_arcs.specs.Tables.{link_of};
 
 use crate::lists::Memory;

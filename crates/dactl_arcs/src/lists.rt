@@ -1,6 +1,7 @@
 //! Arcs in lists: for each slot, the arcs whose target it is.
 
-ghost use Rattle.std.specs.Prelude.{◌≡◌, ◌≢◌, ◌+◌, ◌<◌, [], ◌∷◌, ◌++◌, length, map, nat_le, slice_get, slice_set, Some, IfOk, IfSome};
+ghost use Rattle.std.specs.Prelude.{◌≡◌, ◌≢◌, ◌+◌, ◌<◌, [], ◌∷◌, ◌++◌, length, map, nat_le};
+ghost use Rattle.std.specs.Prelude.{slice_get, slice_set, Some, IfOk, IfSome};
 ghost use Rattle.dactl_arcs.specs.Pool.{target_of, rest_of_walk};
 ghost use Rattle.dactl_arcs.specs.Linked.{IsIn, slot_count, list_of, IsSameSize, IsValidLists};
 ghost use Rattle.dactl_arcs.specs.Moves.{record_at, sent_to, idle, cleared};
@@ -55,6 +56,10 @@ impl Model for Lists {
 
 impl Lists {
     /// Empty lists, so many of them, with room for so many arcs.
+    ///
+    /// # Errors
+    ///
+    /// `Memory` where there is not enough memory.
     pub fn with_room(alloc: Global, slots: u32, arcs: u32) -> Result<Lists, Memory>
         ensures arcs { IfOk result (λ lists. lists.arcs ≡ []) }
         ensures slots { IfOk result (λ lists. slot_count lists ≡ slots) }
@@ -75,12 +80,14 @@ impl Lists {
         self.arcs.len() as u32
     }
 
+    /// How many arcs there may be in all lists.
     pub fn room(&self) -> u32
         ensures { result ≡ self.now.room }
     {
         self.room
     }
 
+    /// The arc of this number.
     pub fn arc(&self, arc: u32) -> ArcRecord
         requires { arc < length self.now.arcs }
         ensures found { slice_get self.now.arcs arc ≡ Some result }
@@ -131,7 +138,8 @@ impl Lists {
         requires from_in_range { from < slot_count self.old }
         requires to_in_range { to < slot_count self.old }
         requires first { slice_get (list_of self.old from) 0 ≡ Some arc }
-        ensures arcs { self.new.arcs ≡ slice_set self.old.arcs arc (sent_to to (record_at self.old.arcs arc)) }
+        ensures arcs { self.new.arcs
+            ≡ slice_set self.old.arcs arc (sent_to to (record_at self.old.arcs arc)) }
         ensures fewer { length (list_of self.new from) + 1 ≡ length (list_of self.old from) }
         ensures kept { IsSameSize self.old self.new }
         ensures leads { IsIn self.old from arc }
@@ -152,7 +160,8 @@ impl Lists {
     // Clears one flag.
     fn clear(&mut self, arc: u32)
         requires { arc < length self.old.arcs }
-        ensures arcs { self.new.arcs ≡ slice_set self.old.arcs arc (idle (record_at self.old.arcs arc)) }
+        ensures arcs { self.new.arcs
+            ≡ slice_set self.old.arcs arc (idle (record_at self.old.arcs arc)) }
         ensures into { self.new.into ≡ self.old.into }
         ensures room { self.new.room ≡ self.old.room }
     {
@@ -163,7 +172,8 @@ impl Lists {
     pub fn is_at_most_as_long(&self, one: u32, other: u32) -> bool
         requires one { one < slot_count self.now }
         requires other { other < slot_count self.now }
-        ensures { result ≡ nat_le (length (list_of self.now one)) (length (list_of self.now other)) }
+        ensures { result
+            ≡ nat_le (length (list_of self.now one)) (length (list_of self.now other)) }
     {
         let mut left = self.first_into(one);
         let mut right = self.first_into(other);

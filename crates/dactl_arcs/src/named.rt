@@ -1,7 +1,8 @@
 //! Lists of arcs under names. Who merges the lists of two slots may keep either, since the one that is kept
 //! can be named for the other slot.
 
-ghost use Rattle.std.specs.Prelude.{◌≡◌, ◌≢◌, ◌+◌, ◌<◌, ◌≤◌, [], ◌∷◌, ◌++◌, length, map, nat_le, slice_get, slice_set, Some, IfOk, IfSome};
+ghost use Rattle.std.specs.Prelude.{◌≡◌, ◌≢◌, ◌+◌, ◌<◌, ◌≤◌, [], ◌∷◌, ◌++◌, length, map, nat_le};
+ghost use Rattle.std.specs.Prelude.{slice_get, slice_set, Some, IfOk, IfSome};
 ghost use Rattle.dactl_arcs.specs.Pool.{target_of, rest_of_walk};
 ghost use Rattle.dactl_arcs.specs.Linked.{IsIn, slot_count, list_of, IsSameSize, IsValidLists};
 ghost use Rattle.dactl_arcs.specs.Moves.{cleared, record_at, sent_to};
@@ -37,6 +38,10 @@ impl Model for NamedLists {
 
 impl NamedLists {
     /// Empty lists, so many of them, with room for so many arcs.
+    ///
+    /// # Errors
+    ///
+    /// `Memory` where there is not enough memory.
     pub fn with_room(alloc: Global, slots: u32, arcs: u32) -> Result<NamedLists, Memory>
         ensures arcs { IfOk result (λ lists. lists.arcs ≡ []) }
         ensures slots { IfOk result (λ lists. slot_count lists ≡ slots) }
@@ -49,6 +54,7 @@ impl NamedLists {
         })
     }
 
+    /// How many arcs there may be in all lists.
     pub fn room(&self) -> u32
         ensures { result ≡ self.now.room }
     {
@@ -115,7 +121,8 @@ impl NamedLists {
     pub fn is_at_most_as_long(&self, one: u32, other: u32) -> bool
         requires one { one < slot_count self.now }
         requires other { other < slot_count self.now }
-        ensures { result ≡ nat_le (length (list_of self.now one)) (length (list_of self.now other)) }
+        ensures { result
+            ≡ nat_le (length (list_of self.now one)) (length (list_of self.now other)) }
     {
         self.lists
             .is_at_most_as_long(self.homes.get(one), self.homes.get(other))
@@ -140,7 +147,8 @@ impl NamedLists {
         requires from_in_range { from < slot_count self.old }
         requires to_in_range { to < slot_count self.old }
         requires first { slice_get (list_of self.old from) 0 ≡ Some arc }
-        ensures arcs { self.new.arcs ≡ slice_set self.old.arcs arc (sent_to to (record_at self.old.arcs arc)) }
+        ensures arcs { self.new.arcs
+            ≡ slice_set self.old.arcs arc (sent_to to (record_at self.old.arcs arc)) }
         ensures fewer { length (list_of self.new from) + 1 ≡ length (list_of self.old from) }
         ensures kept { IsSameSize self.old self.new }
         ensures leads { IsIn self.old from arc }

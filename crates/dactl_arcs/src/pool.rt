@@ -1,13 +1,16 @@
 //! The pool: arcs between numbered nodes, and the redirection of all arcs into a node.
 
-ghost use Rattle.std.specs.Prelude.{◌≡◌, ◌+◌, ◌<◌, ◌≤◌, ◌^◌, ◌↔◌, [], ◌∷◌, ◌++◌, All, length, map, slice_get, Some, IfOk, IfSome, OnOk, OnErr, IsErr, if◌then◌else◌};
-ghost use Rattle.dactl_arcs.specs.Pool.{IsValid, LeadsTo, arc_record, arcs_into, rest_of_walk, target_of, targets};
+ghost use Rattle.std.specs.Prelude.{◌≡◌, ◌<◌, ◌≤◌, ◌^◌, ◌↔◌, [], ◌∷◌, ◌++◌, All, length, map};
+ghost use Rattle.std.specs.Prelude.{slice_get, Some, IfOk, IfSome, OnOk, OnErr, IsErr};
+ghost use Rattle.dactl_arcs.specs.Pool.{IsValid, LeadsTo, arc_record, arcs_into};
+ghost use Rattle.dactl_arcs.specs.Pool.{rest_of_walk, target_of, targets};
 ghost use Rattle.dactl_arcs.specs.Moves.{cleared, landed, parked, retargeted};
-ghost use Rattle.dactl_arcs.specs.Kept.{AreBelow, IsBelow, IsKept};
-ghost use Rattle.dactl_arcs.specs.Halves.{AreShiftedBelow, seen, shifted, target_in};
+ghost use Rattle.dactl_arcs.specs.Kept.{AreBelow, IsKept};
+ghost use Rattle.dactl_arcs.specs.Slots.{AreSlotsBelow, IsHoused, in_slots};
 ghost use Rattle.dactl_arcs.specs.Stamps.{changed_by};
 
 use crate::lists::{ArcRecord, Memory};
+use crate::slots::{arc_seen, slot_for};
 use crate::stamped::StampedLists;
 use std::alloc::{AllocError, Global};
 use std::marker::Model;
@@ -31,48 +34,21 @@ pub struct PoolFull;
 /// is left open and that may change where arcs are added or redirected. No call but `with_room` takes memory.
 #[derive(Drop)]
 pub struct ArcPool {
-    // A slot for each target with the arcs along which nobody waits, behind these slots as many for the other
-    // arcs, and behind them a spare one for each pair of a redirection.
+    // A spare slot for each pair of a redirection, and behind them two for each target: one with the arcs along
+    // which nobody waits, and one with the others.
     lists: StampedLists,
-    targets: u32,
 }
 
 impl Model for ArcPool {
-    ghost use Rattle.dactl_arcs.specs.Pool.{Pool};
+    ghost use Rattle.dactl_arcs.specs.Pool.{Pool, targets};
 
     ghost Value = { Pool };
 
-    ghost use Rattle.dactl_arcs.specs.Halves.{IsOver, pool_seen};
+    ghost use Rattle.dactl_arcs.specs.Slots.{IsOver, pool_seen};
 
-    ghost view = { λ p. pool_seen p.targets p.lists };
+    ghost view = { λ p. pool_seen p.lists };
 
-    ghost invariant = { λ p. IsOver p.lists p.targets };
-}
-
-// The target of a slot.
-fn target_in(half: u32, slot: u32) -> u32
-    ensures { result ≡ target_in half slot }
-{
-    if slot < half { slot } else { slot - half }
-}
-
-// The arc that names its slot, by its target.
-fn arc_seen(half: u32, arc: ArcRecord) -> ArcRecord
-    ensures { result ≡ seen half arc }
-{
-    ArcRecord {
-        target: target_in(half, arc.target),
-        ..arc
-    }
-}
-
-// The slot for the arcs into a target, by their flag.
-fn slot_for(half: u32, target: u32, waits: bool) -> u32
-    requires target { target < half }
-    requires fits { half + half < 2 ^ 32 }
-    ensures { result ≡ (if waits then half + target else target) }
-{
-    if waits { half + target } else { target }
+    ghost invariant = { λ p. IsOver p.lists (targets (pool_seen p.lists)) };
 }
 
 // Moves all arcs of a slot to another, which may be the same.
@@ -89,59 +65,61 @@ fn move_slot(lists: &mut StampedLists, from: u32, to: u32)
     }
 }
 
-// Moves the arcs of the first slot of each pair, which are `shift` higher, to the pair's own spare slot, which is
-// empty, so that the two change their lists. A slot that an earlier pair began with has no arcs left.
-fn park(lists: &mut StampedLists, moves: &[(u32, u32)], shift: u32, spare: u32)
-    requires slots { spare + length moves.now ≤ targets lists.old }
-    requires fits { spare + length moves.now < 2 ^ 32 }
-    requires below { AreShiftedBelow shift spare moves.now }
-    ensures arcs { lists.new.arcs ≡ map (parked spare (shifted shift moves.now)) lists.old.arcs }
+// Moves the arcs into the first target of each pair that have the flag to the pair's own spare slot, which is
+// empty, so that the two slots change their lists. One of which an earlier pair took the arcs has none left.
+fn park(lists: &mut StampedLists, moves: &[(u32, u32)], waits: bool)
+    requires few { length moves.now ≤ MOST_MOVES }
+    requires below { AreSlotsBelow (targets lists.old) moves.now }
+    requires fits { targets lists.old ≤ 2 ^ 32 }
+    ensures arcs { lists.new.arcs ≡ map (parked 0 (in_slots waits moves.now)) lists.old.arcs }
     ensures kept { IsKept lists.old lists.new }
     ensures changed { lists.new.changed ≡ lists.old.changed }
     ensures newest { lists.new.newest ≡ lists.old.newest }
 {
     for (place, pair) in moves.iter().enumerate() {
-        lists.merge(shift + pair.0, spare + place as u32);
+        lists.merge(slot_for(pair.0, waits), place as u32);
     }
 }
 
-// Moves the arcs in each pair's spare slot to the pair's second slot.
-fn land(lists: &mut StampedLists, moves: &[(u32, u32)], shift: u32, spare: u32)
-    requires slots { spare + length moves.now ≤ targets lists.old }
-    requires fits { spare + length moves.now < 2 ^ 32 }
-    requires below { AreShiftedBelow shift spare moves.now }
-    ensures arcs { lists.new.arcs ≡ map (landed spare (shifted shift moves.now)) lists.old.arcs }
+// Moves the arcs in each pair's spare slot to the slot of the pair's second target.
+fn land(lists: &mut StampedLists, moves: &[(u32, u32)], waits: bool)
+    requires few { length moves.now ≤ MOST_MOVES }
+    requires below { AreSlotsBelow (targets lists.old) moves.now }
+    requires fits { targets lists.old ≤ 2 ^ 32 }
+    ensures arcs { lists.new.arcs ≡ map (landed 0 (in_slots waits moves.now)) lists.old.arcs }
     ensures kept { IsKept lists.old lists.new }
     ensures changed { lists.new.changed ≡ lists.old.changed }
     ensures newest { lists.new.newest ≡ lists.old.newest }
 {
     for (place, pair) in moves.iter().enumerate() {
-        lists.merge(spare + place as u32, shift + pair.1);
+        lists.merge(place as u32, slot_for(pair.1, waits));
     }
 }
 
-// Moves the arcs of the slots that the pairs name, `shift` higher, all at the same time.
-fn move_slots(lists: &mut StampedLists, moves: &[(u32, u32)], shift: u32, spare: u32)
-    requires slots { spare + length moves.now ≤ targets lists.old }
-    requires fits { spare + length moves.now < 2 ^ 32 }
-    requires below { AreShiftedBelow shift spare moves.now }
-    requires ends { All (IsBelow spare) lists.old.arcs }
-    ensures arcs { lists.new.arcs ≡ map (retargeted (shifted shift moves.now)) lists.old.arcs }
+// Moves the arcs that have the flag as the pairs say, all at the same time.
+fn move_slots(lists: &mut StampedLists, moves: &[(u32, u32)], waits: bool)
+    requires few { length moves.now ≤ MOST_MOVES }
+    requires below { AreSlotsBelow (targets lists.old) moves.now }
+    requires fits { targets lists.old ≤ 2 ^ 32 }
+    requires ends { All IsHoused lists.old.arcs }
+    ensures arcs { lists.new.arcs ≡ map (retargeted (in_slots waits moves.now)) lists.old.arcs }
     ensures kept { IsKept lists.old lists.new }
     ensures changed { lists.new.changed ≡ lists.old.changed }
     ensures newest { lists.new.newest ≡ lists.old.newest }
 {
     if moves.len() == 1 {
-        move_slot(lists, shift + moves[0].0, shift + moves[0].1);
+        let from = slot_for(moves[0].0, waits);
+        let to = slot_for(moves[0].1, waits);
+        move_slot(lists, from, to);
         return;
     }
-    park(lists, moves, shift, spare);
-    land(lists, moves, shift, spare);
+    park(lists, moves, waits);
+    land(lists, moves, waits);
 }
 
 impl ArcPool {
-    /// An empty pool, with room for so many arcs between so many nodes. It takes 28 bytes for each arc and
-    /// 40 for each node.
+    /// An empty pool, with room for so many arcs between so many nodes. It takes 24 bytes for each arc and 32 for
+    /// each node. What is never used of them is never written.
     ///
     /// # Errors
     ///
@@ -156,11 +134,13 @@ impl ArcPool {
         if targets > MOST_TARGETS {
             return Err(AllocError);
         }
-        let lists = StampedLists::with_room(alloc, targets + targets + MOST_MOVES, arcs)?;
-        Ok(ArcPool { lists, targets })
+        let slots = targets + targets + MOST_MOVES;
+        Ok(ArcPool {
+            lists: StampedLists::with_room(alloc, slots, arcs)?,
+        })
     }
 
-    /// How many arcs there are.
+    /// How many arcs there are; the next one that is added has this number.
     pub fn len(&self) -> u32
         ensures len { result ≡ length self.now.arcs }
         ensures valid { IsValid self.now }
@@ -184,7 +164,8 @@ impl ArcPool {
         requires owner { owner < targets self.old }
         requires target { target < targets self.old }
         ensures number { IfOk result (λ arc. arc ≡ length self.old.arcs) }
-        ensures added { OnOk result (self.new.arcs ≡ self.old.arcs ++ arc_record owner target waits ∷ []) }
+        ensures added { OnOk result
+            (self.new.arcs ≡ self.old.arcs ++ arc_record owner target waits ∷ []) }
         ensures kept { IsKept self.old self.new }
         ensures changed { OnOk result (self.new.changed ≡ self.old.changed ++ 0 ∷ []) }
         ensures newest { self.new.newest ≡ self.old.newest }
@@ -195,7 +176,7 @@ impl ArcPool {
         if number == self.lists.room() {
             return Err(PoolFull);
         }
-        let target = slot_for(self.targets, target, waits);
+        let target = slot_for(target, waits);
         self.lists.push(ArcRecord {
             owner,
             target,
@@ -209,7 +190,7 @@ impl ArcPool {
         requires { arc < length self.now.arcs }
         ensures { slice_get self.now.arcs arc ≡ Some result }
     {
-        arc_seen(self.targets, self.lists.arc(arc))
+        arc_seen(self.lists.arc(arc))
     }
 
     /// The arc at which a walk along the arcs into the target along which their owners wait begins, if there
@@ -217,11 +198,12 @@ impl ArcPool {
     pub fn first_into(&self, target: u32) -> Option<u32>
         requires { target < targets self.now }
         ensures first { result ≡ slice_get (arcs_into self.now target) 0 }
-        ensures whole { rest_of_walk result (arcs_into self.now target) ≡ arcs_into self.now target }
+        ensures whole { let walk = arcs_into self.now target in
+            rest_of_walk result walk ≡ walk }
         ensures leads { IfSome result (LeadsTo self.now target) }
         ensures valid { IsValid self.now }
     {
-        self.lists.first_into(self.targets + target)
+        self.lists.first_into(slot_for(target, true))
     }
 
     /// The arc at which a walk that has come to this arc goes on, unless it is the last.
@@ -249,14 +231,14 @@ impl ArcPool {
         requires below { AreBelow (targets self.old) moves.now }
         requires newer { self.old.newest < stamp }
         ensures arcs { self.new.arcs ≡ map (retargeted moves.now) self.old.arcs }
-        ensures changed { self.new.changed ≡ changed_by moves.now stamp self.old.arcs self.old.changed }
+        ensures changed { self.new.changed
+            ≡ changed_by moves.now stamp self.old.arcs self.old.changed }
         ensures newest { self.new.newest ≡ stamp }
         ensures kept { IsKept self.old self.new }
     {
-        let spare = self.targets + self.targets;
-        self.lists.stamp_moved(moves, self.targets, stamp);
-        move_slots(&mut self.lists, moves, 0, spare);
-        move_slots(&mut self.lists, moves, self.targets, spare);
+        self.lists.stamp_moved(moves, stamp);
+        move_slots(&mut self.lists, moves, false);
+        move_slots(&mut self.lists, moves, true);
     }
 
     /// The last change of the arc: the stamp of the redirection that gave it its target, or 0 where it has
@@ -275,7 +257,7 @@ impl ArcPool {
         ensures changed { slice_get self.now.changed arc ≡ Some result.1 }
     {
         let (record, change) = self.lists.arc_and_change(arc);
-        (arc_seen(self.targets, record), change)
+        (arc_seen(record), change)
     }
 
     /// Clears the flags of the arcs into the target, in the time of a walk along those that have one.
@@ -286,8 +268,9 @@ impl ArcPool {
         ensures changed { self.new.changed ≡ self.old.changed }
         ensures newest { self.new.newest ≡ self.old.newest }
     {
-        let slot = self.targets + target;
-        self.lists.clear_waits(slot);
-        self.lists.merge(slot, target);
+        let lists = &mut self.lists;
+        let waiting = slot_for(target, true);
+        lists.clear_waits(waiting);
+        lists.merge(waiting, slot_for(target, false));
     }
 }

@@ -1,12 +1,14 @@
 //! When each arc last changed its target. Stamps are given to whole lists; an arc that leaves its list takes
 //! along what the stamp of the list says of it.
 
-ghost use Rattle.std.specs.Prelude.{◌≡◌, ◌≢◌, ◌+◌, ◌<◌, ◌≤◌, ◌^◌, ◌==◌, ℕ, [], ◌∷◌, ◌++◌, length, map, slice_get, slice_set, slice_index_or, Some, IfOk, IfSome, if◌then◌else◌};
+ghost use Rattle.std.specs.Prelude.{◌≡◌, ◌≢◌, ◌+◌, ◌<◌, ◌≤◌, ◌^◌, ◌==◌, ℕ, [], ◌∷◌, ◌++◌};
+ghost use Rattle.std.specs.Prelude.{length, map, slice_get, slice_set, slice_index_or, Some, All};
+ghost use Rattle.std.specs.Prelude.{IfOk, IfSome, if◌then◌else◌};
 ghost use Rattle.dactl_arcs.specs.Pool.{targets, target_of, arcs_into, rest_of_walk};
 ghost use Rattle.dactl_arcs.specs.Linked.{IsIn, linked};
-ghost use Rattle.dactl_arcs.specs.Halves.{seen};
+ghost use Rattle.dactl_arcs.specs.Slots.{AreSlotsBelow, IsHoused, seen};
 ghost use Rattle.dactl_arcs.specs.Moves.{cleared, moved_to, record_at, retargeted, sent_to};
-ghost use Rattle.dactl_arcs.specs.Kept.{AreBelow, IsKept};
+ghost use Rattle.dactl_arcs.specs.Kept.{IsKept};
 ghost use Rattle.dactl_arcs.specs.Naming.{swapped};
 ghost use Rattle.dactl_arcs.specs.Stamps.{IsValidStamped, changed_by, last_change};
 
@@ -65,6 +67,10 @@ fn last_change(list: u32, arc: ArcStamp) -> u32
 
 impl StampedLists {
     /// Empty lists, so many of them, with room for so many arcs.
+    ///
+    /// # Errors
+    ///
+    /// `Memory` where there is not enough memory.
     pub fn with_room(alloc: Global, slots: u32, arcs: u32) -> Result<StampedLists, Memory>
         ensures arcs { IfOk result (λ s. s.arcs ≡ []) }
         ensures slots { IfOk result (λ s. targets s ≡ slots) }
@@ -88,6 +94,7 @@ impl StampedLists {
         self.lists.len()
     }
 
+    /// How many arcs there may be in all lists.
     pub fn room(&self) -> u32
         ensures { result ≡ self.now.room }
     {
@@ -168,7 +175,8 @@ impl StampedLists {
         requires from_in_range { from < targets self.old }
         requires to_in_range { to < targets self.old }
         requires first { slice_get (arcs_into self.old from) 0 ≡ Some arc }
-        ensures arcs { self.new.arcs ≡ slice_set self.old.arcs arc (sent_to to (record_at self.old.arcs arc)) }
+        ensures arcs { self.new.arcs
+            ≡ slice_set self.old.arcs arc (sent_to to (record_at self.old.arcs arc)) }
         ensures fewer { length (arcs_into self.new from) + 1 ≡ length (arcs_into self.old from) }
         ensures kept { IsKept self.old self.new }
         ensures changed { self.new.changed ≡ self.old.changed }
@@ -230,20 +238,21 @@ impl StampedLists {
     }
 
     /// Gives the stamp to each arc whose target the pairs send elsewhere, in a time that doesn't depend on the
-    /// arcs. The arcs of a target lie in its slot and, `half` behind, in a second one.
-    pub fn stamp_moved(&mut self, moves: &[(u32, u32)], half: u32, stamp: u32)
-        requires below { AreBelow half moves.now }
-        requires halves { half + half ≤ targets self.old }
-        requires fits { half + half < 2 ^ 32 }
+    /// arcs. Each arc is in a slot of its target.
+    pub fn stamp_moved(&mut self, moves: &[(u32, u32)], stamp: u32)
+        requires below { AreSlotsBelow (targets self.old) moves.now }
+        requires fits { targets self.old ≤ 2 ^ 32 }
+        requires ends { All IsHoused self.old.arcs }
         requires newer { self.old.newest < stamp }
         ensures arcs { self.new.arcs ≡ self.old.arcs }
         ensures into { self.new.into ≡ self.old.into }
         ensures room { self.new.room ≡ self.old.room }
-        ensures changed { self.new.changed ≡ changed_by moves.now stamp (map (seen half) self.old.arcs) self.old.changed }
+        ensures changed { self.new.changed
+            ≡ changed_by moves.now stamp (map seen self.old.arcs) self.old.changed }
         ensures newest { self.new.newest ≡ stamp }
     {
         let _ = self.lists.len();
-        stamp_slots(&mut self.slots, moves, half, stamp);
+        stamp_slots(&mut self.slots, moves, stamp);
         self.newest = stamp;
     }
 }

@@ -1,6 +1,8 @@
 //! A row of numbers of which only the front that was used is stored.
 
-ghost use Rattle.std.specs.Prelude.{◌≡◌, ◌+◌, ◌-◌, ◌<◌, ◌≤◌, ◌^◌, ◌++◌, length, replicate, slice_index, slice_set, vec_capacity, vec_len, IfOk, if◌then◌else◌};
+ghost use Rattle.std.specs.Prelude.{◌≡◌, ◌+◌, ◌-◌, ◌<◌, ◌≤◌, ◌^◌, ◌++◌, length, replicate};
+ghost use Rattle.std.specs.Prelude.{slice_index, slice_set, vec_capacity, vec_len, IfOk};
+ghost use Rattle.std.specs.Prelude.{if◌then◌else◌};
 ghost use Rattle.dactl_arcs.specs.Naming.{IsCounting};
 ghost use Rattle.dactl_arcs.specs.Tables.{initial_at, initials};
 
@@ -10,14 +12,14 @@ use std::marker::Model;
 
 /// A row of so many numbers.
 ///
-/// All its memory is taken at the beginning, and a place is written when a number is first put there or behind
-/// it. So a row of which little is used takes no time for the rest of it.
+/// All its memory is taken at the beginning, and a place is written when a number is first put there, or farther
+/// behind. So a row of which only the front is used takes no time for the rest.
 #[derive(Drop)]
 pub struct Table {
-    // The numbers in front, as far as one was put.
+    // The numbers in front, up to the farthest place where one was put.
     stored: Vec<u32>,
     length: u32,
-    // Whether a number behind them is its place, or 0.
+    // Whether each number behind them is its own place; otherwise it is 0.
     counts: bool,
 }
 
@@ -40,7 +42,8 @@ fn initial(counts: bool, place: u32) -> u32
     if counts { place } else { 0 }
 }
 
-// Stores the numbers up to the place, which are behind those that are stored.
+// Stores the numbers up to the place, which is behind those that are stored.
+#[cold]
 fn store(stored: &mut Vec<u32>, counts: bool, place: u32)
     requires behind { vec_len stored.old ≤ place }
     requires room { place < vec_capacity stored.old }
@@ -96,8 +99,8 @@ impl Table {
         initial(self.counts, place)
     }
 
-    /// Puts a number at the place. All calls together write each place in front of the farthest one once more
-    /// than they put numbers there.
+    /// Puts a number at the place. It takes constant time on average: all calls together write each place up to the
+    /// farthest one once more than they put numbers there.
     pub fn set(&mut self, place: u32, number: u32)
         requires { place < length self.old }
         ensures { self.new ≡ slice_set self.old place number }

@@ -1,30 +1,59 @@
-use Rattle.std.proofs.Common.{◌<◌, ◌∷◌, [], ◌+◌, length, map, refl, sym, ap, ◌∙◌, arith}
+use Rattle.std.proofs.Common.{◌≡◌, ◌<◌, ◌≤◌, ◌+◌, ◌∷◌, [], length, map, get_or, true, refl, sym, ap, ◌∙◌, arith}
 use Rattle.std.proofs.lemmas.List.{length-map, take_all}
-use Rattle.dactl_arcs.specs.Halves.{raised, shifted}
+use Rattle.dactl_arcs.specs.declared.pool.TheConstants.{MOST_MOVES}
+use Rattle.dactl_arcs.specs.Slots.{in_slots, raised}
 use Rattle.dactl_arcs.specs.Moves.{parked, retargeted}
-use Rattle.dactl_arcs.proofs.Halves.{AreBelow-shifted, shifted_at}
 use Rattle.dactl_arcs.proofs.Moving.{parked_none, parks}
+use Rattle.dactl_arcs.proofs.Housing.{AreAbove-slots, slot_above, slot_at, slot_below}
 use Rattle.dactl_arcs.proofs.pool.park.Goals as goal
 
 pub loop-place-init : goal.loop-place-init
-loop-place-init c = (record { targets = refl; room = refl }, sym (parked_none c.args.spare c.args.lists.now.arcs), refl, refl)
+loop-place-init c = (record { targets = refl; room = refl }, sym (parked_none 0 c.args.lists.now.arcs), refl, refl)
+
+pub slot_for-requires : goal.slot_for-requires
+slot_for-requires c =
+    let inside : c.loop-place.place < length c.args.moves.now = omega arith in
+    omega (arith, (c.requires.below c.loop-place.place (0, 0) inside).0, c.requires.fits)
+
+pub merge-requires-clause-different : goal.merge-requires-clause-different
+merge-requires-clause-different c =
+    let inside : c.loop-place.place < length c.args.moves.now = omega arith in
+    let pair = get_or c.args.moves.now c.loop-place.place (0, 0) in
+    λ same. omega (arith, inside, c.requires.few, slot_above pair.0 c.args.waits, c.slot_for.ensures)
+
+pub merge-requires-clause-from_in_range : goal.merge-requires-clause-from_in_range
+merge-requires-clause-from_in_range c =
+    let inside : c.loop-place.place < length c.args.moves.now = omega arith in
+    let pair = get_or c.args.moves.now c.loop-place.place (0, 0) in
+    omega (arith, slot_below pair.0 c.args.waits _ (c.requires.below c.loop-place.place (0, 0) inside).0, c.slot_for.ensures, c.loop-place.invariant.0.targets)
+
+pub merge-requires-clause-to_in_range : goal.merge-requires-clause-to_in_range
+merge-requires-clause-to_in_range c =
+    let inside : c.loop-place.place < length c.args.moves.now = omega arith in
+    let pair = get_or c.args.moves.now c.loop-place.place (0, 0) in
+    omega (arith, c.requires.few, (c.requires.below c.loop-place.place (0, 0) inside).0, slot_above pair.0 true, c.loop-place.invariant.0.targets)
 
 pub loop-place-preserved : goal.loop-place-preserved
 loop-place-preserved c =
     let kept = c.loop-place.invariant.0 in
-    let moves = shifted c.args.shift c.args.moves.now in
-    let long = length-map c.args.moves.now (raised c.args.shift) in
+    let moves = in_slots c.args.waits c.args.moves.now in
+    let long = length-map c.args.moves.now (raised c.args.waits) in
     let inside : c.loop-place.place < length c.args.moves.now = omega arith in
-    let at = shifted_at c.args.shift c.loop-place.place c.args.moves.now inside in
-    let below = AreBelow-shifted c.args.shift c.args.spare c.args.moves.now c.requires.below in
-    let within : c.loop-place.place < length moves = omega (arith, long, inside) in (
+    let at = slot_at c.args.waits c.loop-place.place c.args.moves.now inside in
+    let within : c.loop-place.place < length moves = omega (arith, long, inside) in
+    let few : 0 + length moves ≤ MOST_MOVES = omega (arith, long, c.requires.few) in
+    let here : c.loop-place.place ≡ 0 + c.loop-place.place = omega arith in
+    let sent =
+    c.merge.ensures.arcs
+    ∙ ap (λ slot. map (retargeted ((slot, c.loop-place.place) ∷ [])) c.loop-place.lists.arcs) (c.slot_for.ensures ∙ ap (λ p. p.0) (sym at))
+    ∙ ap (λ number. map (retargeted (((get_or moves c.loop-place.place (0, 0)).0, number) ∷ [])) c.loop-place.lists.arcs) here in (
       record { targets = c.merge.ensures.kept.targets ∙ kept.targets; room = c.merge.ensures.kept.room ∙ kept.room },
-      parks c.args.spare c.loop-place.place moves (0, 0) within _ _ _ (below c.loop-place.place (0, 0) within).0 c.loop-place.invariant.1 (c.merge.ensures.arcs ∙ ap (λ p. map (retargeted ((p.0, c.args.spare + c.loop-place.place) ∷ [])) c.loop-place.lists.arcs) (sym at)),
+      parks 0 c.loop-place.place MOST_MOVES moves (0, 0) within few _ _ _ (AreAbove-slots c.args.waits c.args.moves.now c.loop-place.place (0, 0) within).0 c.loop-place.invariant.1 sent,
       c.merge.ensures.changed ∙ c.loop-place.invariant.2,
       c.merge.ensures.newest ∙ c.loop-place.invariant.3,
     )
 
 pub returns-clause-arcs : goal.returns-clause-arcs
 returns-clause-arcs c =
-    let moves = shifted c.args.shift c.args.moves.now in
-    c.loop-place.invariant.1 ∙ ap (λ ms. map (parked c.args.spare ms) c.args.lists.now.arcs) (take_all c.loop-place.place moves (omega (arith, length-map c.args.moves.now (raised c.args.shift))))
+    let moves = in_slots c.args.waits c.args.moves.now in
+    c.loop-place.invariant.1 ∙ ap (λ ms. map (parked 0 ms) c.args.lists.now.arcs) (take_all c.loop-place.place moves (omega (arith, length-map c.args.moves.now (raised c.args.waits))))

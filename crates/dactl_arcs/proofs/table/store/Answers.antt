@@ -1,4 +1,4 @@
-use Rattle.std.proofs.Common.{◌≡◌, ◌+◌, ◌-◌, ◌≤◌, ◌++◌, ◌∷◌, [], length, vec_len, refl, sym, ap, ◌∙◌, rules, arith, length-append}
+use Rattle.std.proofs.Common.{◌≡◌, ◌+◌, ◌-◌, ◌++◌, ◌∷◌, [], length, vec_len, ap, ◌∙◌, rules, arith, length-append}
 use Rattle.dactl_arcs.specs.Tables.{initial_at, initials}
 use Rattle.dactl_arcs.proofs.Tables.{initials-push, length-initials}
 use Rattle.dactl_arcs.proofs.table.store.Goals as goal

@@ -1,4 +1,4 @@
-use Rattle.std.proofs.Common.{◌≡◌, ◌<◌, length, vec_capacity, vec_len, refl, sym, subst, rules, arith}
+use Rattle.std.proofs.Common.{◌≡◌, length, vec_capacity, vec_len, sym, subst, rules, arith}
 use Rattle.dactl_arcs.proofs.Tables.{IsReady, IsTable-set, below_long, ready_already, ready_stored, set_ready}
 use Rattle.dactl_arcs.proofs.table.Table.set.Goals as goal
 use Rattle.dactl_arcs.proofs.table.Table.set.Goals.{then-len-place, else-len-place}
