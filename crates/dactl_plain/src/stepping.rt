@@ -30,8 +30,13 @@ fn has_few_nodes(graph: &Graph) -> bool
     graph.nodes.len() < 1 << 31
 }
 
-/// The match with which the rule may fire at the node, or none where it may not.
-fn allowed_match(
+/// The match with which the rule may fire at the node, or none where it may not. It may not where
+/// the graph has no such node, or the program no such rule.
+///
+/// # Errors
+///
+/// When memory is wanting.
+pub fn allowed_match(
     alloc: Global,
     program: &Program,
     graph: &Graph,
