@@ -1,4 +1,3 @@
-pub mod Numbers
 pub mod LineParts
 pub mod Entries
 pub mod Rooms

@@ -1,43 +1,15 @@
 -- The parts of a line, one after another.
-use Rattle.std.proofs.Common.{◌≡◌, ℕ, ◌^◌, ◌<◌, true, List, [], ◌++◌, codes, refl, ap, sym, ◌∙◌, arith, append_assoc}
+use Rattle.std.proofs.Common.{◌≡◌, ℕ, ◌^◌, ◌<◌, List, [], ◌++◌, codes, refl, ap, sym, ◌∙◌, arith, append_assoc}
+use Rattle.std.specs.Char.{is_ascii_digit}
 use Rattle.std.specs.Fmt.{decimal}
-use Rattle.std.specs.Str.{all_ascii_digits}
-use Rattle.std.proofs.lemmas.List.{append_cancel_left}
-use Rattle.std.proofs.lemmas.Fmt.{decimal_injective}
+use Rattle.dactl_base.specs.Readers.{Stops, BeginsWith}
+use Rattle.dactl_base.proofs.NumberParts.{number_behind}
 use Rattle.dactl_model.specs.declared.graph.NodeId.{NodeId}
 use Rattle.dactl_model.specs.declared.graph.Event.{Event}
 use Rattle.dactl_model.specs.declared.graph.Event.TheVariants.{Fire, Note}
 use Rattle.dactl_model.specs.declared.graph.Entry.{Entry}
 use Rattle.dactl_print.specs.Texts.{event_text, line_feed}
-use Rattle.dactl_verify.specs.Lines.{IsWorker, IsLineOf, BeginsNoNumber, BeginsWith, HasWords}
-use Rattle.dactl_verify.proofs.Numbers.{decimal_digits, same_digits}
-
--- ---- a number behind a prefix
-
-pub read : {prefix bytes behind ds rest : List ℕ} {n : ℕ} → bytes ≡ prefix ++ behind → behind ≡ ds ++ rest → BeginsNoNumber rest → (n < 2 ^ 32) × (ds ≡ decimal n) → BeginsWith prefix bytes n rest
-read {prefix} {rest = rest} stripped joined ends value =
-    record {
-      text = stripped ∙ ap (λ (t : List ℕ). prefix ++ t) (joined ∙ ap (λ (t : List ℕ). t ++ rest) value.1);
-      word = value.0;
-      ends = ends;
-    }
-
--- what is no number's text begins no number either
-pub unread : {prefix bytes behind more : List ℕ} {n : ℕ} (ds rest : List ℕ) → bytes ≡ prefix ++ behind → behind ≡ ds ++ rest → all_ascii_digits ds ≡ true → BeginsNoNumber rest
-    → ((m : ℕ) → m < 2 ^ 32 → ds ≡ decimal m → ⊥) → BeginsWith prefix bytes n more → ⊥
-unread {prefix} {behind = behind} {more} {n} ds rest stripped joined all ends none is =
-    let own : behind ≡ decimal n ++ more = append_cancel_left prefix behind (decimal n ++ more) (sym stripped ∙ is.text) in
-    let split = same_digits ds (decimal n) rest more all (decimal_digits n is.word) ends is.ends (sym joined ∙ own) in
-    none n is.word split.0
-
--- a number behind a prefix, and what follows it, are determined
-pub same_number : {prefix bytes rest more : List ℕ} {n m : ℕ} → BeginsWith prefix bytes n rest → BeginsWith prefix bytes m more → (n ≡ m) × (rest ≡ more)
-same_number {prefix} {bytes} {rest} {more} {n} {m} one other =
-    let own : decimal n ++ rest ≡ decimal m ++ more = append_cancel_left prefix (decimal n ++ rest) (decimal m ++ more) (sym one.text ∙ other.text) in
-    let split = same_digits (decimal n) (decimal m) rest more (decimal_digits n one.word) (decimal_digits m other.word) one.ends other.ends own in
-    let small : n < 2 ^ 32 = one.word in
-    let also : m < 2 ^ 32 = other.word in
-    (decimal_injective n m (omega arith) (omega arith) split.0, split.1)
+use Rattle.dactl_verify.specs.Lines.{IsWorker, IsLineOf, HasWords}
 
 -- ---- a firing
 
@@ -53,11 +25,11 @@ fire_node n r small is = record { text = is ∙ fire_text n r; word = small.0; e
 
 pub fire_rule : {text rest : List ℕ} {node : ℕ} (n : NodeId) (r : ℕ) → BeginsWith (codes " fire ") text node rest → HasWords (Fire n r) → text ≡ event_text (Fire n r) ++ line_feed
     → BeginsWith (codes " ") rest r line_feed
-fire_rule n r found small is = record { text = (same_number found (fire_node n r small is)).1; word = small.1; ends = refl }
+fire_rule n r found small is = record { text = (number_behind found (fire_node n r small is)).1; word = small.1; ends = refl }
 
 pub fire_end : {text rest end : List ℕ} {node rule : ℕ} (n : NodeId) (r : ℕ) → BeginsWith (codes " fire ") text node rest → BeginsWith (codes " ") rest rule end → HasWords (Fire n r)
     → text ≡ event_text (Fire n r) ++ line_feed → end ≡ line_feed
-fire_end n r found then small is = (same_number then (fire_rule n r found small is)).1
+fire_end n r found then small is = (number_behind then (fire_rule n r found small is)).1
 
 pub fire_read : {text rest end : List ℕ} {node rule : ℕ} → BeginsWith (codes " fire ") text node rest → BeginsWith (codes " ") rest rule end → end ≡ line_feed
     → text ≡ event_text (Fire (record { number = node }) rule) ++ line_feed
@@ -70,7 +42,7 @@ pub note_node : {text : List ℕ} (n : NodeId) → HasWords (Note n) → text �
 note_node n small is = record { text = is; word = small; ends = refl }
 
 pub note_end : {text end : List ℕ} {node : ℕ} (n : NodeId) → BeginsWith (codes " note ") text node end → HasWords (Note n) → text ≡ event_text (Note n) ++ line_feed → end ≡ line_feed
-note_end n found small is = (same_number found (note_node n small is)).1
+note_end n found small is = (number_behind found (note_node n small is)).1
 
 pub note_read : {text end : List ℕ} {node : ℕ} → BeginsWith (codes " note ") text node end → end ≡ line_feed → text ≡ event_text (Note (record { number = node })) ++ line_feed
 note_read {node = node} found end = found.text ∙ ap (λ (t : List ℕ). codes " note " ++ (decimal node ++ t)) end
@@ -92,7 +64,7 @@ event_part entry = event_text entry.event ++ line_feed
 abbrev pub worker_part : Entry → List ℕ
 worker_part entry = codes " w" ++ (decimal entry.worker ++ event_part entry)
 
-event_begins : (e : Event) → BeginsNoNumber (event_text e ++ line_feed)
+event_begins : (e : Event) → Stops is_ascii_digit (event_text e ++ line_feed)
 event_begins (Fire n r) = refl
 event_begins (Note n) = refl
 
@@ -104,14 +76,14 @@ pub line_worker : {line behind : List ℕ} {number own : ℕ} (entry : Entry) �
 line_worker entry small found is =
     let few = is.worker in
     record {
-      text = (same_number found (line_number entry small is)).1;
+      text = (number_behind found (line_number entry small is)).1;
       word = omega arith;
       ends = event_begins entry.event;
     }
 
 pub line_event : {line behind rest : List ℕ} {number own worker : ℕ} (entry : Entry) → number < 2 ^ 32 → BeginsWith [] line own behind → BeginsWith (codes " w") behind worker rest
     → IsLineOf number entry line → rest ≡ event_part entry
-line_event entry small found then is = (same_number then (line_worker entry small found is)).1
+line_event entry small found then is = (number_behind then (line_worker entry small found is)).1
 
 pub line_read : {line behind rest : List ℕ} {number worker : ℕ} (event : Event) → BeginsWith [] line number behind → IsWorker worker → BeginsWith (codes " w") behind worker rest
     → rest ≡ event_text event ++ line_feed → IsLineOf number (record { worker = worker; event = event }) line

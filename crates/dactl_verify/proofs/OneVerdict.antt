@@ -1,6 +1,7 @@
 -- A trace has one verdict in a room.
 use Rattle.std.proofs.Common.{◌≡◌, ℕ, suc, ◌+◌, ◌^◌, ◌<◌, ◌≤◌, ◌⊎◌, inl, inr, List, [], ◌∷◌, ◌++◌, length, take, All, slice_get, Some, refl, sym, ap, ap₂, ◌∙◌, subst, arith, append_assoc, length-append}
 use Rattle.std.proofs.lemmas.List.{append_cancel_left}
+use Rattle.dactl_base.specs.Readers.{next_line}
 use Rattle.dactl_model.specs.declared.graph.NodeId.{NodeId}
 use Rattle.dactl_model.specs.declared.graph.Graph.{Graph}
 use Rattle.dactl_model.specs.declared.graph.Event.{Event}
@@ -19,7 +20,7 @@ use Rattle.dactl_model.proofs.OneMatch.{has_one_step}
 use Rattle.dactl_print.specs.Texts.{entry_line, entry_lines}
 use Rattle.dactl_verify.specs.declared.verdict.Verdict.{Verdict}
 use Rattle.dactl_verify.specs.declared.verdict.Verdict.TheVariants.{Valid, Wrong, Full, Small}
-use Rattle.dactl_verify.specs.Lines.{IsWorker, IsLineOf, HasWords, next_line}
+use Rattle.dactl_verify.specs.Lines.{IsWorker, IsLineOf, HasWords}
 use Rattle.dactl_verify.specs.Rooms.{FitsRoom, Exceeds, limits_of, room_of}
 use Rattle.dactl_verify.specs.Verdicts.{IsOverfull, IsFound, IsEnded, IsSmall, IsVerdict}
 use Rattle.dactl_verify.specs.Laws.{HasOneVerdict}

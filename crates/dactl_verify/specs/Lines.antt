@@ -1,16 +1,9 @@
 -- The lines of a trace, as they are read.
-use Rattle.std.specs.Prelude.{◌≡◌, ℕ, ◌^◌, ◌<◌, ◌≤◌, List, [], ◌∷◌, ◌++◌, false}
-use Rattle.std.specs.Char.{is_ascii_digit}
-use Rattle.std.specs.Fmt.{decimal}
-use Rattle.std.specs.Io.BufRead.{take_through}
+use Rattle.std.specs.Prelude.{◌≡◌, ℕ, ◌^◌, ◌<◌, ◌≤◌, List}
 use Rattle.dactl_model.specs.declared.graph.Event.{Event}
 use Rattle.dactl_model.specs.declared.graph.Event.TheVariants.{Fire, Note}
 use Rattle.dactl_model.specs.declared.graph.Entry.{Entry}
 use Rattle.dactl_print.specs.Texts.{entry_line}
-
--- the next line: up to and with the first LF, or all that is left
-abbrev pub next_line : List ℕ → List ℕ
-next_line rest = take_through 10 rest
 
 -- the number of a worker
 abbrev pub IsWorker : ℕ → Type 0
@@ -20,17 +13,6 @@ IsWorker worker = (1 ≤ worker) × (worker ≤ 16)
 pub record IsLineOf (number : ℕ) (entry : Entry) (line : List ℕ) : Type 0 where
   pub text : line ≡ entry_line number entry
   pub worker : IsWorker entry.worker
-
--- no digit stands first
-abbrev pub BeginsNoNumber : List ℕ → Type 0
-BeginsNoNumber [] = Unit {0}
-BeginsNoNumber (b ∷ bs) = is_ascii_digit b ≡ false
-
--- behind the prefix the bytes have this number, of 32 bits, and the rest follows it
-pub record BeginsWith (prefix bytes : List ℕ) (number : ℕ) (rest : List ℕ) : Type 0 where
-  pub text : bytes ≡ prefix ++ (decimal number ++ rest)
-  pub word : number < 2 ^ 32
-  pub ends : BeginsNoNumber rest
 
 -- the numbers in the event have 32 bits
 abbrev pub HasWords : Event → Type 0

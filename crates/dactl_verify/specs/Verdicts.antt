@@ -1,5 +1,6 @@
 -- What the check of a trace finds.
 use Rattle.std.specs.Prelude.{◌≡◌, ◌≢◌, ℕ, ◌+◌, List, [], ◌++◌, length, take, All}
+use Rattle.dactl_base.specs.Readers.{next_line}
 use Rattle.dactl_model.specs.declared.graph.NodeId.{NodeId}
 use Rattle.dactl_model.specs.declared.graph.Graph.{Graph}
 use Rattle.dactl_model.specs.declared.graph.Event.TheVariants.{Fire}
@@ -12,7 +13,7 @@ use Rattle.dactl_model.specs.Ending.{IsFull}
 use Rattle.dactl_print.specs.Texts.{trace_lines}
 use Rattle.dactl_verify.specs.declared.verdict.Verdict.{Verdict}
 use Rattle.dactl_verify.specs.declared.verdict.Verdict.TheVariants.{Valid, Wrong, Full, Small}
-use Rattle.dactl_verify.specs.Lines.{IsWorker, IsLineOf, next_line}
+use Rattle.dactl_verify.specs.Lines.{IsWorker, IsLineOf}
 use Rattle.dactl_verify.specs.Rooms.{FitsRoom, Exceeds, limits_of, room_of}
 
 -- the line is right after the graph: it is that of the entry, with this number and a worker from 1 to 16, whose event leads to the other graph

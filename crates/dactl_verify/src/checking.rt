@@ -1,23 +1,20 @@
 //! The check of a trace, line by line.
-ghost use Rattle.std.specs.Prelude.{◌≡◌, ◌<◌, ◌≤◌, ◌^◌, ◌↔◌, ◌++◌, ◌⊎◌, ℕ, [], IfOk};
-ghost use Rattle.std.specs.Prelude.{IfErr, IfSome, IfNone, IsTrue, None, length};
-ghost use Rattle.dactl_model.specs.declared.graph.Event.TheVariants.{Fire, Note};
+ghost use Rattle.std.specs.Prelude.{◌≡◌, ◌≤◌, [], IfOk, IfErr, length};
+ghost use Rattle.dactl_model.specs.declared.graph.Event.TheVariants.{Fire};
 ghost use Rattle.dactl_model.specs.Ending.{room_left};
-ghost use Rattle.dactl_model.specs.Graphs.{HasNode, IsWellFormed};
 ghost use Rattle.dactl_model.specs.Programs.{IsValid};
-ghost use Rattle.dactl_model.specs.Steps.{MayHappen};
-ghost use Rattle.dactl_plain.specs.Replaying.{IsStepped};
 ghost use Rattle.dactl_verify.specs.Rooms.{limits_of};
 ghost use Rattle.dactl_verify.specs.Steps.{IsReached, IsOutcome, IsFoundAt};
 ghost use Rattle.dactl_verify.specs.Verdicts.{IsFront, IsVerdict};
 
-use crate::line::{read_line, split_line};
+use crate::line::read_line;
 use crate::room::{exceeds, needed_by, room_of};
 use crate::verdict::Verdict;
+use dactl_base::line::split_line;
 use dactl_model::Memory;
 use dactl_model::graph::{Entry, Event, Graph, NodeId, Room};
 use dactl_model::program::Program;
-use dactl_plain::{allowed, fire_in_place, matches, start_graph, step};
+use dactl_plain::{allowed_match, fire_in_place, start_graph, step};
 use std::alloc::Global;
 
 /// The graph after the entries so far, and how many arcs it has.
@@ -59,36 +56,6 @@ impl Reached {
             arcs: room.arcs - self.arcs,
         }
     }
-}
-
-fn has_node(graph: &Graph, node: NodeId) -> bool
-    ensures { IsTrue result ↔ HasNode graph.now node }
-{
-    (node.number as usize) < graph.nodes.len()
-}
-
-// The match with which the rule may fire at the node, or none where it may not.
-fn allowed_match(
-    alloc: Global,
-    program: &Program,
-    graph: &Graph,
-    node: NodeId,
-    rule: u32,
-) -> Result<Option<Vec<NodeId>>, Memory>
-    requires program { IsValid program.now }
-    requires graph { IsWellFormed graph.now }
-    ensures found { IfOk result (λ found.
-        IfSome found (λ h. MayHappen program.now graph.now h.items (Fire node rule))) }
-    ensures none { IfOk result (λ found.
-        IfNone found (IsStepped program.now graph.now (Fire node rule) None)) }
-{
-    if !has_node(graph, node) || rule as usize >= program.rules.len() {
-        return Ok(None);
-    }
-    if !allowed(alloc, program, graph, node, rule)? {
-        return Ok(None);
-    }
-    matches(alloc, program, graph, node, rule)
 }
 
 // What a firing comes to. The room is asked where the rule is allowed, and before it fires.

@@ -1,13 +1,14 @@
 use Rattle.std.proofs.Common.{ℕ, [], subst}
-use Rattle.dactl_verify.specs.Lines.{BeginsWith}
-use Rattle.dactl_verify.proofs.LineParts.{line_number, line_worker, line_event, line_read, same_number}
+use Rattle.dactl_base.specs.Readers.{BeginsWith}
+use Rattle.dactl_base.proofs.NumberParts.{number_behind}
+use Rattle.dactl_verify.proofs.LineParts.{line_number, line_worker, line_event, line_read}
 use Rattle.dactl_verify.proofs.line.read_line.Goals as goal
 
 pub returns-in_err-own : goal.returns-in_err-own
 returns-in_err-own c = rw c.from_residual.ensures (λ entry small is. c.in_err-own.ensures _ _ (line_number entry c.ranges.number.fits is))
 
 pub returns-then-own-number : goal.returns-then-own-number
-returns-then-own-number c = λ entry small is. c.if-own-number.true ((same_number c.in_ok-own.ensures (line_number entry c.ranges.number.fits is)).0)
+returns-then-own-number c = λ entry small is. c.if-own-number.true ((number_behind c.in_ok-own.ensures (line_number entry c.ranges.number.fits is)).0)
 
 pub returns-in_err-worker : goal.returns-in_err-worker
 returns-in_err-worker c = rw c.from_residual-in_err-worker.ensures (λ entry small is. c.in_err-worker.ensures _ _ is.worker (line_worker entry c.ranges.number.fits c.in_ok-own.ensures is))
