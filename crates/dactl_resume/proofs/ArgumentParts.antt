@@ -5,17 +5,17 @@ use Rattle.std.specs.List.{AllByRecursion}
 use Rattle.std.proofs.lemmas.Bool.{cases_lt}
 use Rattle.std.proofs.lemmas.List.{append_cancel_left, append-nil}
 use Rattle.std.proofs.lemmas.List.Elements.{All-from_recursion, recursion_from_All}
+use Rattle.dactl_base.specs.Readers.{BeginsWith}
 use Rattle.dactl_model.specs.declared.graph.Arc.{Arc}
 use Rattle.dactl_print.specs.Texts.{line_feed}
 use Rattle.dactl_resume.specs.Plain.{put_argument, put_further, put_arguments}
-use Rattle.dactl_resume.specs.Parts.{BeginsWith, BeginsArgument, AreTargets, IsFurther, AreArguments, Appended}
-use Rattle.dactl_resume.proofs.Fronts.{same_front}
+use Rattle.dactl_resume.specs.Parts.{BeginsArgument, AreTargets, IsFurther, AreArguments, Appended}
 use Rattle.dactl_resume.proofs.SameText.{other_byte, same_argument, further_stops}
 
 -- ---- one argument
 
 flag_apart : (w v : Bool) (behind at more : List ℕ) → behind ≡ cond w (94 ∷ []) [] ++ at → (w ≡ false → (rest : List ℕ) → behind ≢ 94 ∷ rest) → behind ≡ cond v (94 ∷ []) [] ++ (64 ∷ more) → (w ≡ v) × (at ≡ 64 ∷ more)
-flag_apart true true behind at more joined none is = (refl, same_front (94 ∷ []) at (64 ∷ more) (sym joined ∙ is))
+flag_apart true true behind at more joined none is = (refl, append_cancel_left (94 ∷ []) at (64 ∷ more) (sym joined ∙ is))
 flag_apart true false behind at more joined none is = absurd (other_byte 94 64 at more (λ e. absurd (omega (arith, e))) (sym joined ∙ is))
 flag_apart false true behind at more joined none is = absurd (none refl (64 ∷ more) is)
 flag_apart false false behind at more joined none is = (refl, sym joined ∙ is)

@@ -2,6 +2,7 @@
 use Rattle.std.proofs.Common.{◌≡◌, ℕ, ◌+◌, ◌^◌, ◌<◌, List, [], ◌∷◌, ◌++◌, sym, ◌∙◌, ap, subst, Option, Some, None, Result, Ok, Err, IfOk, MatchOption}
 use Rattle.std.specs.Fmt.{decimal}
 use Rattle.std.specs.List.{AllByRecursion}
+use Rattle.std.proofs.lemmas.List.{append_cancel_left}
 use Rattle.std.proofs.lemmas.List.Elements.{recursion_from_All}
 use Rattle.dactl_model.specs.declared.graph.Label.{Label}
 use Rattle.dactl_model.specs.declared.graph.Arc.{Arc}
@@ -15,7 +16,6 @@ use Rattle.dactl_within.proofs.FireKept.{node_with}
 use Rattle.dactl_resume.specs.Answers.{IsContentOf, IsLineOf}
 use Rattle.dactl_resume.specs.Parts.{BeginsMark, BeginsLabel, AreTargets, AreArguments}
 use Rattle.dactl_resume.specs.Plain.{put_arguments, put_content}
-use Rattle.dactl_resume.proofs.Fronts.{same_front}
 use Rattle.dactl_resume.proofs.Marks.{same_marked, some_mark, few_mark}
 use Rattle.dactl_resume.proofs.LabelTexts.{same_labelled}
 use Rattle.dactl_resume.proofs.SameText.{label_stops, arguments_stop, IsShort, short_arcs, same_arguments}
@@ -81,7 +81,7 @@ pub line_content : (p : Program) (count i : ℕ) (line bytes : List ℕ) (node :
 line_content p count i line bytes node head is =
     let both : 64 ∷ (decimal (i + 1) ++ (32 ∷ bytes)) ≡ 64 ∷ (decimal (i + 1) ++ (32 ∷ put_content p node [])) = sym head ∙ is.text in
     record {
-      text = same_front (32 ∷ []) bytes (put_content p node []) (same_front (decimal (i + 1)) (32 ∷ bytes) (32 ∷ put_content p node []) (same_front (64 ∷ []) (decimal (i + 1) ++ (32 ∷ bytes)) (decimal (i + 1) ++ (32 ∷ put_content p node [])) both));
+      text = append_cancel_left (32 ∷ []) bytes (put_content p node []) (append_cancel_left (decimal (i + 1)) (32 ∷ bytes) (32 ∷ put_content p node []) (append_cancel_left (64 ∷ []) (decimal (i + 1) ++ (32 ∷ bytes)) (decimal (i + 1) ++ (32 ∷ put_content p node [])) both));
       listed = is.listed;
     }
 

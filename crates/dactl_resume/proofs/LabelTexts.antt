@@ -7,6 +7,9 @@ use Rattle.std.specs.List.{list_all}
 use Rattle.std.specs.Option.{option_map}
 use Rattle.std.proofs.lemmas.Bool.{cases_lt, ne_eqb}
 use Rattle.std.proofs.lemmas.Option.{get_or_from_slice_get, slice_get_within, slice_get_cases, slice_get-map}
+use Rattle.dactl_base.specs.Readers.{Stops}
+use Rattle.dactl_base.proofs.Passing.{split_by, all_more, each_step, Begins, begins_apart, begins_front, begins_step}
+use Rattle.dactl_base.proofs.Decimals.{decimal_digits, digit_range, Low, small_integer, integer_begins, integer_injective}
 use Rattle.dactl_model.specs.declared.graph.Label.{Label}
 use Rattle.dactl_model.specs.declared.graph.Label.TheVariants.{Symbol, Integer, Character}
 use Rattle.dactl_model.specs.declared.program.Symbol.{Symbol as SymbolOf}
@@ -20,9 +23,7 @@ use Rattle.dactl_model.proofs.Unique.{left_true, right_true}
 use Rattle.dactl_print.specs.Lines.{name_of, label_text}
 use Rattle.dactl_resume.specs.Found.{IsPlace}
 use Rattle.dactl_resume.specs.Restriction.{IsOfLanguage}
-use Rattle.dactl_resume.specs.Parts.{names_of, is_sign, is_label_byte, Stops, IsLabelOf, IsWord, BeginsLabel}
-use Rattle.dactl_resume.proofs.Fronts.{split_by, all_more, Begins, begins_apart, begins_front, begins_step}
-use Rattle.dactl_resume.proofs.Decimals.{decimal_digits, digit_range, Low, small_integer, integer_begins, integer_injective}
+use Rattle.dactl_resume.specs.Parts.{names_of, is_sign, is_label_byte, IsLabelOf, IsWord, BeginsLabel}
 use Rattle.dactl_resume.proofs.Marks.{no_sign}
 
 -- an integer of a language has 128 bits at most
@@ -59,10 +60,6 @@ word_in_label c word = in_label c (λ at. false_true (subst (λ x. is_word_byte 
 
 digit_in_label : (c : ℕ) → is_ascii_digit c ≡ true → is_label_byte c ≡ true
 digit_in_label c digit = let range = digit_range c digit in in_label c (λ at. absurd (omega (arith, range.1, at))) (λ at. absurd (omega (arith, range.0, at)))
-
-pub each_step : (one other : ℕ → Bool) → ((c : ℕ) → one c ≡ true → other c ≡ true) → (cs : List ℕ) → list_all one cs ≡ true → list_all other cs ≡ true
-each_step one other step [] all = refl
-each_step one other step (c ∷ cs) all = all_more other c cs (step c (left_true (one c) (list_all one cs) all)) (each_step one other step cs (right_true (one c) (list_all one cs) all))
 
 -- a capital letter, or a byte above
 abbrev pub Capital : ℕ → Type 0

@@ -1,5 +1,3 @@
-pub mod Fronts
-pub mod Decimals
 pub mod Marks
 pub mod LabelTexts
 pub mod Among
@@ -14,7 +12,6 @@ pub mod Onward
 pub mod Printable
 pub mod PrintRead
 pub mod Waking
-pub mod NumberParts
 pub mod ArgumentParts
 pub mod Content
 pub mod LineLists

@@ -1,28 +1,14 @@
 -- The lines of a text.
-use Rattle.std.proofs.Common.{◌≡◌, ℕ, zero, suc, ◌+◌, ◌<◌, ◌≤◌, ◌==◌, Bool, true, false, not, if◌then◌else◌, min, cond, List, [], ◌∷◌, ◌++◌, length, take, drop, count_by, Option, Some, None, slice_get, get_or, inl, inr, take-append-drop, refl, sym, ◌∙◌, ap, subst, arith}
-use Rattle.std.specs.List.{prefix_len, concat}
+use Rattle.std.proofs.Common.{◌≡◌, ℕ, zero, suc, ◌+◌, ◌<◌, ◌≤◌, ◌==◌, Bool, true, false, not, if◌then◌else◌, cond, List, [], ◌∷◌, ◌++◌, length, take, drop, count_by, Option, Some, None, slice_get, get_or, inl, inr, take-append-drop, refl, sym, ◌∙◌, ap, subst, arith}
+use Rattle.std.specs.List.{concat}
 use Rattle.std.proofs.lemmas.Bool.{eqb-true}
 use Rattle.std.proofs.lemmas.List.{take_more}
 use Rattle.std.proofs.lemmas.Option.{get_or_from_slice_get, slice_get_within, slice_get_cases}
+use Rattle.dactl_base.specs.Readers.{next_line}
 use Rattle.dactl_model.proofs.Counting.{count_by-cons}
 use Rattle.dactl_resume.specs.Answers.{prepend, lines_of, DiffersFirst}
-use Rattle.dactl_resume.specs.Parts.{next_line}
 
 -- ---- the first line
-
--- the front up to and with the first LF is the next line
-pub line_front : (bs : List ℕ) → take (min (prefix_len (λ b. not (b == 10)) bs + 1) (length bs)) bs ≡ next_line bs
-line_front [] = refl
-line_front (b ∷ bs) =
-    let rest = line_front bs in
-    elim (b == 10) as (λ t. take (min (cond (not t) (1 + prefix_len (λ b. not (b == 10)) bs) 0 + 1) (length (b ∷ bs))) (b ∷ bs) ≡ (if t then b ∷ [] else b ∷ next_line bs)) [
-      | true ↦
-          let one : min (0 + 1) (length (b ∷ bs)) ≡ 1 = omega arith in
-          ap (λ (k : ℕ). take k (b ∷ bs)) one
-      | false ↦
-          let more : min (1 + prefix_len (λ b. not (b == 10)) bs + 1) (length (b ∷ bs)) ≡ suc (min (prefix_len (λ b. not (b == 10)) bs + 1) (length bs)) = omega arith in
-          ap (λ (k : ℕ). take k (b ∷ bs)) more ∙ ap (λ (t : List ℕ). b ∷ t) rest
-    ]
 
 -- a text that is not empty begins with a line, and the other lines are those of the rest
 pub lines_next : (bs rest : List ℕ) → 0 < length bs → bs ≡ next_line bs ++ rest → lines_of bs ≡ next_line bs ∷ lines_of rest

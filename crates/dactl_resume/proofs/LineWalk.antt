@@ -2,12 +2,12 @@
 use Rattle.std.proofs.Common.{◌≡◌, ℕ, ◌+◌, ◌<◌, ◌≤◌, List, [], ◌∷◌, ◌++◌, length, Some, slice_get, refl, sym, ◌∙◌, ap, subst, arith, inl, inr, append_assoc, length-append}
 use Rattle.std.proofs.lemmas.List.{append-nil}
 use Rattle.std.proofs.lemmas.Option.{slice_get_cases, slice_get_within}
+use Rattle.dactl_base.specs.Readers.{next_line}
 use Rattle.dactl_model.specs.declared.graph.Node.{Node}
 use Rattle.dactl_model.specs.declared.graph.Graph.{Graph}
 use Rattle.dactl_model.specs.declared.program.Program.{Program}
 use Rattle.dactl_within.proofs.After.{get_append_left, get_append_right}
 use Rattle.dactl_resume.specs.Answers.{lines_of, IsLineOf, IsGood, IsGraphOf, IsMalformed}
-use Rattle.dactl_resume.specs.Parts.{next_line}
 use Rattle.dactl_resume.proofs.LineLists.{lines_next}
 
 -- so many lines have their nodes, and the others are those of the rest

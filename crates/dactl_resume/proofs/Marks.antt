@@ -3,13 +3,14 @@ use Rattle.std.proofs.Common.{◌≡◌, ℕ, zero, suc, ◌≤◌, ◌==◌, tr
 use Rattle.std.specs.List.{list_all}
 use Rattle.std.proofs.lemmas.Bool.{ne_eqb}
 use Rattle.std.proofs.lemmas.List.Sums.{count_by-le-length}
+use Rattle.dactl_base.specs.Readers.{Stops}
+use Rattle.dactl_base.proofs.Passing.{split_by, all_more, begins_apart}
 use Rattle.dactl_model.specs.declared.graph.Mark.{Mark}
 use Rattle.dactl_model.specs.declared.graph.Mark.TheVariants.{Idle, Active, Waiting}
 use Rattle.dactl_model.specs.declared.graph.Arc.{Arc}
 use Rattle.dactl_model.specs.Graphs.{FitsMark}
 use Rattle.dactl_print.specs.Lines.{mark_text}
-use Rattle.dactl_resume.specs.Parts.{is_sign, Stops, IsFewMark, BeginsMark}
-use Rattle.dactl_resume.proofs.Fronts.{split_by, all_more, begins_apart}
+use Rattle.dactl_resume.specs.Parts.{is_sign, IsFewMark, BeginsMark}
 
 each_sign : (k : ℕ) → list_all is_sign (replicate k 35) ≡ true
 each_sign zero = refl

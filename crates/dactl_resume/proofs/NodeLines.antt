@@ -1,10 +1,9 @@
 -- The lines of a graph's print are those of its nodes.
 use Rattle.std.proofs.Common.{◌≡◌, ℕ, ◌+◌, ◌<◌, ◌^◌, ◌==◌, Bool, true, false, not, if◌then◌else◌, cond, List, [], ◌∷◌, ◌++◌, length, refl, sym, ◌∙◌, ap, subst, arith, append_assoc}
-use Rattle.std.specs.Char.{is_ascii_digit}
 use Rattle.std.specs.Fmt.{decimal}
-use Rattle.std.specs.List.{AllByRecursion, list_all}
-use Rattle.std.proofs.lemmas.Bool.{ne_eqb}
-use Rattle.std.proofs.lemmas.List.Folds.{list_all-append}
+use Rattle.std.specs.List.{AllByRecursion}
+use Rattle.dactl_base.proofs.Passing.{all_more, each_step}
+use Rattle.dactl_base.proofs.NextLine.{is_pure, not_feed, pure_append, pure_decimal}
 use Rattle.dactl_model.specs.declared.graph.Label.{Label}
 use Rattle.dactl_model.specs.declared.graph.Label.TheVariants.{Symbol, Integer, Character}
 use Rattle.dactl_model.specs.declared.graph.Arc.{Arc}
@@ -17,25 +16,10 @@ use Rattle.dactl_print.specs.Lines.{mark_text, label_text}
 use Rattle.dactl_resume.specs.Answers.{prepend, lines_of}
 use Rattle.dactl_resume.specs.Parts.{is_sign, is_label_byte, IsLabelOf}
 use Rattle.dactl_resume.specs.Plain.{put_argument, put_further, put_arguments, put_node, put_nodes}
-use Rattle.dactl_resume.proofs.Fronts.{all_more}
-use Rattle.dactl_resume.proofs.Decimals.{decimal_digits, digit_range}
 use Rattle.dactl_resume.proofs.Marks.{mark_signs}
-use Rattle.dactl_resume.proofs.LabelTexts.{each_step, word_bytes}
+use Rattle.dactl_resume.proofs.LabelTexts.{word_bytes}
 use Rattle.dactl_resume.proofs.SameText.{IsShort, IsGood}
 use Rattle.dactl_resume.proofs.GraphOf.{node_lines, arguments_append}
-
--- no LF stands in the bytes
-abbrev is_pure : List ℕ → Bool
-is_pure cs = list_all (λ c. not (c == 10)) cs
-
-not_feed : (c : ℕ) → (c ≡ 10 → ⊥) → not (c == 10) ≡ true
-not_feed c other = let no : (c == 10) ≡ false = ne_eqb c 10 other in rw no refl
-
-pure_append : (xs ys : List ℕ) → is_pure xs ≡ true → is_pure ys ≡ true → is_pure (xs ++ ys) ≡ true
-pure_append xs ys front back = list_all-append (λ c. not (c == 10)) xs ys ∙ rw (front, back) refl
-
-pure_decimal : (n : ℕ) → n < 10 ^ 64 → is_pure (decimal n) ≡ true
-pure_decimal n small = each_step is_ascii_digit (λ c. not (c == 10)) (λ c digit. not_feed c (λ e. absurd (omega (arith, e, (digit_range c digit).0)))) (decimal n) (decimal_digits n small)
 
 false_true : false ≡ true → ⊥
 false_true e = cc

@@ -3,7 +3,11 @@ use Rattle.std.proofs.Common.{◌≡◌, ℕ, ◌+◌, ◌<◌, ◌^◌, Bool, t
 use Rattle.std.specs.Char.{is_ascii_digit}
 use Rattle.std.specs.List.{AllByRecursion}
 use Rattle.std.specs.Fmt.{decimal}
+use Rattle.std.proofs.lemmas.List.{append_cancel_left}
 use Rattle.std.proofs.lemmas.List.Elements.{recursion_from_All}
+use Rattle.dactl_base.specs.Readers.{Stops}
+use Rattle.dactl_base.proofs.Passing.{begins_front, begins_stops}
+use Rattle.dactl_base.proofs.NumberParts.{same_number}
 use Rattle.dactl_model.specs.declared.graph.NodeId.{NodeId}
 use Rattle.dactl_model.specs.declared.graph.Arc.{Arc}
 use Rattle.dactl_model.specs.declared.graph.Mark.{Mark}
@@ -17,12 +21,10 @@ use Rattle.dactl_print.specs.Lines.{label_text, IsLabelAmong}
 use Rattle.dactl_within.specs.Renumbering.{nodes_from}
 use Rattle.dactl_within.proofs.FireKept.{numbered, node_with}
 use Rattle.dactl_resume.specs.Answers.{IsListed}
-use Rattle.dactl_resume.specs.Parts.{is_sign, is_label_byte, Stops, IsLabelOf}
+use Rattle.dactl_resume.specs.Parts.{is_sign, is_label_byte, IsLabelOf}
 use Rattle.dactl_resume.specs.Plain.{put_argument, put_further, put_arguments, put_content, put_node, put_nodes}
 use Rattle.dactl_resume.specs.Restriction.{IsOfLanguage, IsCanonical, IsPrintable}
 use Rattle.dactl_resume.specs.Statements.{TextHasOneGraph, ReadIsRestriction}
-use Rattle.dactl_resume.proofs.Fronts.{split_by, same_front, begins_front, begins_stops}
-use Rattle.dactl_resume.proofs.Decimals.{decimal_digits, decimal_injective}
 use Rattle.dactl_resume.proofs.Marks.{IsSomeMark, same_marked}
 use Rattle.dactl_resume.proofs.LabelTexts.{label_begins, same_labelled}
 use Rattle.dactl_resume.proofs.Putting.{text_put}
@@ -32,11 +34,6 @@ use Rattle.dactl_resume.proofs.Canonical.{graph_is, restriction_is_canonical, ca
 pub other_byte : (m n : ℕ) (r s : List ℕ) → (m ≡ n → ⊥) → m ∷ r ≡ n ∷ s → ⊥
 other_byte m n r s ne e = let same : m ≡ n = cc in ne same
 
-pub same_number : (m n : ℕ) (r s : List ℕ) → m < 10 ^ 64 → n < 10 ^ 64 → Stops is_ascii_digit r → Stops is_ascii_digit s → decimal m ++ r ≡ decimal n ++ s → (m ≡ n) × (r ≡ s)
-same_number m n r s one other stops ends e =
-    let parts = split_by is_ascii_digit (decimal m) (decimal n) r s (decimal_digits m one) (decimal_digits n other) stops ends e in
-    (decimal_injective m n one other parts.0, parts.1)
-
 same_target : (i j : ℕ) (r s : List ℕ) → i < 2 ^ 63 → j < 2 ^ 63 → Stops is_ascii_digit r → Stops is_ascii_digit s → decimal (i + 1) ++ r ≡ decimal (j + 1) ++ s → (i ≡ j) × (r ≡ s)
 same_target i j r s one other stops ends e =
     let parts = same_number (i + 1) (j + 1) r s (omega arith) (omega arith) stops ends e in
@@ -45,12 +42,12 @@ same_target i j r s one other stops ends e =
 same_argument_by : (v w : Bool) (i j : ℕ) (r s : List ℕ) → i < 2 ^ 63 → j < 2 ^ 63 → Stops is_ascii_digit r → Stops is_ascii_digit s
     → cond v (94 ∷ []) [] ++ (64 ∷ (decimal (i + 1) ++ r)) ≡ cond w (94 ∷ []) [] ++ (64 ∷ (decimal (j + 1) ++ s)) → (v ≡ w) × (i ≡ j) × (r ≡ s)
 same_argument_by true true i j r s one other stops ends e =
-    let rest = same_target i j r s one other stops ends (same_front (94 ∷ 64 ∷ []) (decimal (i + 1) ++ r) (decimal (j + 1) ++ s) e) in
+    let rest = same_target i j r s one other stops ends (append_cancel_left (94 ∷ 64 ∷ []) (decimal (i + 1) ++ r) (decimal (j + 1) ++ s) e) in
     (refl, rest.0, rest.1)
 same_argument_by true false i j r s one other stops ends e = absurd (other_byte 94 64 (64 ∷ (decimal (i + 1) ++ r)) (decimal (j + 1) ++ s) (λ no. absurd (omega (arith, no))) e)
 same_argument_by false true i j r s one other stops ends e = absurd (other_byte 64 94 (decimal (i + 1) ++ r) (64 ∷ (decimal (j + 1) ++ s)) (λ no. absurd (omega (arith, no))) e)
 same_argument_by false false i j r s one other stops ends e =
-    let rest = same_target i j r s one other stops ends (same_front (64 ∷ []) (decimal (i + 1) ++ r) (decimal (j + 1) ++ s) e) in
+    let rest = same_target i j r s one other stops ends (append_cancel_left (64 ∷ []) (decimal (i + 1) ++ r) (decimal (j + 1) ++ s) e) in
     (refl, rest.0, rest.1)
 
 abbrev arc_with : NodeId → Bool → Arc
@@ -73,24 +70,24 @@ further_stops [] rest = refl
 further_stops (a ∷ arcs) rest = refl
 
 pub same_further : (xs ys : List Arc) (r s : List ℕ) → AllByRecursion IsShort xs → AllByRecursion IsShort ys → put_further xs r ≡ put_further ys s → (xs ≡ ys) × (r ≡ s)
-same_further [] [] r s one other e = (refl, same_front (93 ∷ []) r s e)
+same_further [] [] r s one other e = (refl, append_cancel_left (93 ∷ []) r s e)
 same_further [] (y ∷ ys) r s one other e = absurd (other_byte 93 32 r (put_argument y (put_further ys s)) (λ no. absurd (omega (arith, no))) e)
 same_further (x ∷ xs) [] r s one other e = absurd (other_byte 32 93 (put_argument x (put_further xs r)) s (λ no. absurd (omega (arith, no))) e)
 same_further (x ∷ xs) (y ∷ ys) r s one other e =
     let first = same_argument x y (put_further xs r) (put_further ys s) one.0 other.0 (further_stops xs r) (further_stops ys s)
-    (same_front (32 ∷ []) (put_argument x (put_further xs r)) (put_argument y (put_further ys s)) e) in
+    (append_cancel_left (32 ∷ []) (put_argument x (put_further xs r)) (put_argument y (put_further ys s)) e) in
     let rest = same_further xs ys r s one.1 other.1 first.1 in
     (ap (λ z. z ∷ xs) first.0 ∙ ap (λ zs. y ∷ zs) rest.0, rest.1)
 
 pub same_arguments : (xs ys : List Arc) (r s : List ℕ) → AllByRecursion IsShort xs → AllByRecursion IsShort ys → put_arguments xs (10 ∷ r) ≡ put_arguments ys (10 ∷ s) → (xs ≡ ys) × (r ≡ s)
-same_arguments [] [] r s one other e = (refl, same_front (10 ∷ []) r s e)
+same_arguments [] [] r s one other e = (refl, append_cancel_left (10 ∷ []) r s e)
 same_arguments [] (y ∷ ys) r s one other e = absurd (other_byte 10 91 r (put_argument y (put_further ys (10 ∷ s))) (λ no. absurd (omega (arith, no))) e)
 same_arguments (x ∷ xs) [] r s one other e = absurd (other_byte 91 10 (put_argument x (put_further xs (10 ∷ r))) s (λ no. absurd (omega (arith, no))) e)
 same_arguments (x ∷ xs) (y ∷ ys) r s one other e =
     let first = same_argument x y (put_further xs (10 ∷ r)) (put_further ys (10 ∷ s)) one.0 other.0 (further_stops xs (10 ∷ r)) (further_stops ys (10 ∷ s))
-    (same_front (91 ∷ []) (put_argument x (put_further xs (10 ∷ r))) (put_argument y (put_further ys (10 ∷ s))) e) in
+    (append_cancel_left (91 ∷ []) (put_argument x (put_further xs (10 ∷ r))) (put_argument y (put_further ys (10 ∷ s))) e) in
     let rest = same_further xs ys (10 ∷ r) (10 ∷ s) one.1 other.1 first.1 in
-    (ap (λ z. z ∷ xs) first.0 ∙ ap (λ zs. y ∷ zs) rest.0, same_front (10 ∷ []) r s rest.1)
+    (ap (λ z. z ∷ xs) first.0 ∙ ap (λ zs. y ∷ zs) rest.0, append_cancel_left (10 ∷ []) r s rest.1)
 
 pub arguments_stop : (arcs : List Arc) (r : List ℕ) → Stops is_label_byte (put_arguments arcs (10 ∷ r))
 arguments_stop [] r = refl
@@ -120,7 +117,7 @@ module _ (p : Program) (valid : IsValid p) where
       let left = put_content p x r in
       let right = put_content p y s in
       same_content x y r s one other
-      (same_front (32 ∷ []) left right (same_front (decimal (i + 1)) (32 ∷ left) (32 ∷ right) (same_front (64 ∷ []) (decimal (i + 1) ++ (32 ∷ left)) (decimal (i + 1) ++ (32 ∷ right)) e)))
+      (append_cancel_left (32 ∷ []) left right (append_cancel_left (decimal (i + 1)) (32 ∷ left) (32 ∷ right) (append_cancel_left (64 ∷ []) (decimal (i + 1) ++ (32 ∷ left)) (decimal (i + 1) ++ (32 ∷ right)) e)))
 
   pub same_nodes : (i : ℕ) (xs ys : List Node) → AllByRecursion IsGood xs → AllByRecursion IsGood ys → put_nodes p i xs ≡ put_nodes p i ys → xs ≡ ys
   same_nodes i [] [] one other e = refl

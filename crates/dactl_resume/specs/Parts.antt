@@ -1,8 +1,7 @@
 -- The parts of a line, each with what follows it.
-use Rattle.std.specs.Prelude.{◌≡◌, ℕ, ◌<◌, ◌≤◌, ◌^◌, not, ◌||◌, ◌==◌, Bool, false, List, [], ◌∷◌, ◌++◌, length, map, All}
+use Rattle.std.specs.Prelude.{◌≡◌, ℕ, ◌<◌, ◌≤◌, not, ◌||◌, ◌==◌, Bool, List, [], ◌∷◌, ◌++◌, length, map, All}
 use Rattle.std.specs.Char.{is_ascii_digit}
-use Rattle.std.specs.Fmt.{decimal}
-use Rattle.std.specs.Io.BufRead.{take_through}
+use Rattle.dactl_base.specs.Readers.{Stops}
 use Rattle.dactl_model.specs.declared.graph.Arc.{Arc}
 use Rattle.dactl_model.specs.declared.graph.Label.{Label}
 use Rattle.dactl_model.specs.declared.graph.Label.TheVariants.{Symbol, Integer, Character}
@@ -13,24 +12,9 @@ use Rattle.dactl_print.specs.Lines.{mark_text, label_text, IsLabelAmong}
 use Rattle.dactl_resume.specs.Plain.{put_argument, put_further, put_arguments}
 use Rattle.dactl_resume.specs.Restriction.{IsOfLanguage}
 
--- the next line: up to and with the first LF, or all that is left
-abbrev pub next_line : List ℕ → List ℕ
-next_line rest = take_through 10 rest
-
 -- the names of a program's symbols, in their order
 abbrev pub names_of : Program → List (List ℕ)
 names_of p = map (λ s. s.name) p.symbols
-
--- no byte that passes the test stands first
-abbrev pub Stops : (ℕ → Bool) → List ℕ → Type 0
-Stops test [] = Unit {0}
-Stops test (b ∷ bs) = test b ≡ false
-
--- behind the prefix the bytes have this number, of 32 bits, and the rest follows it
-pub record BeginsWith (prefix bytes : List ℕ) (number : ℕ) (rest : List ℕ) : Type 0 where
-  pub text : bytes ≡ prefix ++ (decimal number ++ rest)
-  pub word : number < 2 ^ 32
-  pub ends : Stops is_ascii_digit rest
 
 -- `*` or `#`
 abbrev pub is_sign : ℕ → Bool

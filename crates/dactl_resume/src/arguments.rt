@@ -6,7 +6,7 @@ ghost use Rattle.dactl_print.specs.Texts.{line_feed};
 ghost use Rattle.dactl_resume.specs.Parts.{BeginsArgument, AreTargets};
 ghost use Rattle.dactl_resume.specs.Parts.{IsFurther, AreArguments, Appended};
 
-use crate::numbers::{read_number, strip};
+use dactl_base::numbers::{read_number, strip};
 use dactl_model::Memory;
 use dactl_model::graph::{Arc, NodeId};
 use sqlite_items::Items;

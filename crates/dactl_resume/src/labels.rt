@@ -3,6 +3,7 @@ ghost use Rattle.std.specs.Prelude.{◌≡◌, ◌≢◌, ◌↔◌, ◌||◌, �
 ghost use Rattle.std.specs.Prelude.{length, replicate, MatchOption, IsTrue, true};
 ghost use Rattle.std.specs.List.{list_all, prefix_len};
 ghost use Rattle.std.specs.Fmt.{signed_decimal};
+ghost use Rattle.dactl_base.specs.Readers.{Stops};
 ghost use Rattle.dactl_model.specs.declared.graph.Label.{Label as TheLabel};
 ghost use Rattle.dactl_model.specs.declared.graph.Label.TheVariants.{Integer, Character};
 ghost use Rattle.dactl_model.specs.declared.graph.Mark.{Mark as TheMark};
@@ -13,11 +14,11 @@ ghost use Rattle.dactl_model.specs.Programs.{IsValid};
 ghost use Rattle.dactl_print.specs.Lines.{mark_text, label_text};
 ghost use Rattle.dactl_resume.specs.Found.{found_in, ArePlaces};
 ghost use Rattle.dactl_resume.specs.Parts as parts;
-ghost use Rattle.dactl_resume.specs.Parts.{names_of, Stops, IsFewMark, BeginsMark};
+ghost use Rattle.dactl_resume.specs.Parts.{names_of, IsFewMark, BeginsMark};
 ghost use Rattle.dactl_resume.specs.Parts.{IsLabelOf, IsWord, BeginsLabel};
 
 use crate::names::Names;
-use crate::numbers::integer_of;
+use dactl_base::numbers::integer_of;
 use dactl_model::graph::{Label, Mark};
 use dactl_model::integers::is_word;
 use dactl_model::program::Program;

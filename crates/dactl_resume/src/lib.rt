@@ -8,7 +8,6 @@ pub mod laws;
 mod line;
 mod lines;
 mod names;
-mod numbers;
 mod print;
 pub mod reading;
 pub mod resuming;

@@ -12,7 +12,7 @@ ghost use Rattle.dactl_resume.specs.Parts.{names_of};
 use crate::arguments::read_arguments;
 use crate::labels::{read_label, read_mark};
 use crate::names::Names;
-use crate::numbers::{read_number, strip};
+use dactl_base::numbers::{read_number, strip};
 use dactl_model::Memory;
 use dactl_model::graph::{Arc, Label, Mark, Node};
 use dactl_model::program::Program;

@@ -1,28 +1,9 @@
 //! The lines of a text.
-ghost use Rattle.std.specs.Prelude.{◌≡◌, ◌+◌, ◌++◌, ◌<◌, ◌≤◌, ◌==◌, ◌↔◌, ℕ};
-ghost use Rattle.std.specs.Prelude.{length, not, slice_get, IsTrue, MatchOption};
-ghost use Rattle.std.specs.List.{prefix_len};
+ghost use Rattle.std.specs.Prelude.{◌≡◌, ◌+◌, ◌<◌, ◌≤◌, ◌↔◌, ℕ};
+ghost use Rattle.std.specs.Prelude.{length, slice_get, IsTrue, MatchOption};
 ghost use Rattle.dactl_resume.specs.Answers.{lines_of, DiffersFirst};
-ghost use Rattle.dactl_resume.specs.Parts.{next_line};
 
-// How many bytes stand before the first LF.
-fn count_before_feed(bytes: &[u8]) -> usize
-    ensures { result ≡ prefix_len (λ b. not (b == 10)) bytes.now }
-{
-    bytes.iter().take_while(|byte| **byte != b'\n').count()
-}
-
-/// The next line, with its LF, and what follows it.
-pub fn split_line(bytes: &[u8]) -> (&[u8], &[u8])
-    requires some { 0 < length bytes.now }
-    requires few { length bytes.now ≤ 1048576 }
-    ensures line { result.0.now ≡ next_line bytes.now }
-    ensures joined { bytes.now ≡ result.0.now ++ result.1.now }
-    ensures shorter { length result.1.now < length bytes.now }
-{
-    let len = (count_before_feed(bytes) + 1).min(bytes.len());
-    bytes.split_at(len)
-}
+use dactl_base::line::split_line;
 
 /// How many lines the text has.
 pub fn count_lines(text: &[u8]) -> u32

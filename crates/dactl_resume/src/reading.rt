@@ -9,9 +9,10 @@ ghost use Rattle.dactl_resume.specs.Resumed.{IsGraphFault, IsLineFault};
 
 use crate::fault::GraphFault;
 use crate::line::read_line;
-use crate::lines::{count_lines, first_difference, split_line};
+use crate::lines::{count_lines, first_difference};
 use crate::names::Names;
 use crate::print::print_of;
+use dactl_base::line::split_line;
 use dactl_model::graph::{Graph, NodeId};
 use dactl_model::program::Program;
 use sqlite_items::Items;

@@ -1,5 +1,5 @@
 use Rattle.std.proofs.Common.{arith, inl, inr}
-use Rattle.dactl_resume.proofs.NumberParts.{number_behind}
+use Rattle.dactl_base.proofs.NumberParts.{number_behind}
 use Rattle.dactl_resume.proofs.ArgumentParts.{argument_number}
 use Rattle.dactl_resume.proofs.arguments.read_argument.Goals as goal
 

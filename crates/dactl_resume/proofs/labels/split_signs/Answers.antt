@@ -1,20 +1,14 @@
-use Rattle.std.proofs.Common.{◌≡◌, ℕ, true, List, take, drop, ap, sym, ◌∙◌, subst, arith}
-use Rattle.std.specs.List.{list_all}
-use Rattle.dactl_resume.specs.Parts.{is_sign}
+use Rattle.std.proofs.Common.{arith}
 use Rattle.std.proofs.lemmas.List.Sums.{prefix_len-le-length}
-use Rattle.dactl_resume.specs.Parts.{Stops}
-use Rattle.dactl_resume.proofs.Fronts.{front_passes, behind_stops}
+use Rattle.dactl_base.proofs.Passing.{passing_front, stopping_back}
+use Rattle.dactl_resume.specs.Parts.{is_sign}
 use Rattle.dactl_resume.proofs.labels.split_signs.Goals as goal
 
 pub split_at-requires : goal.split_at-requires
 split_at-requires c = omega (arith, prefix_len-le-length is_sign c.args.bytes.now, c.count_signs.ensures)
 
 pub returns-clause-signs : goal.returns-clause-signs
-returns-clause-signs c =
-    let is = c.split_at.ensures.front ∙ ap (λ (n : ℕ). take n c.args.bytes.now) c.count_signs.ensures in
-    subst (λ (front : List ℕ). list_all is_sign front ≡ true) (sym is) (front_passes is_sign c.args.bytes.now)
+returns-clause-signs c = passing_front is_sign c.args.bytes.now _ _ c.split_at.ensures.front c.count_signs.ensures
 
 pub returns-clause-behind : goal.returns-clause-behind
-returns-clause-behind c =
-    let is = c.split_at.ensures.back ∙ ap (λ (n : ℕ). drop n c.args.bytes.now) c.count_signs.ensures in
-    subst (Stops is_sign) (sym is) (behind_stops is_sign c.args.bytes.now)
+returns-clause-behind c = stopping_back is_sign c.args.bytes.now _ _ c.split_at.ensures.back c.count_signs.ensures

@@ -1,5 +1,5 @@
 use Rattle.std.proofs.Common.{refl}
-use Rattle.dactl_resume.proofs.NumberParts.{number_behind}
+use Rattle.dactl_base.proofs.NumberParts.{number_behind}
 use Rattle.dactl_resume.proofs.line.read_head.Goals as goal
 
 pub returns-then-number-place : goal.returns-then-number-place
