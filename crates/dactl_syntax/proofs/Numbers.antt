@@ -9,7 +9,7 @@ use Rattle.std.proofs.lemmas.Fmt.{decimal_by_steps_wide}
 use Rattle.dactl_model.proofs.Unique.{left_true, right_true}
 use Rattle.dactl_tokens.specs.declared.token.TokenKind.TheVariants.{Integer}
 use Rattle.dactl_tokens.specs.Spelling.{is_upper, is_lower, is_digit, all, is_long_sign, kind_of, decimal, bound, is_too_wide, value_of}
-use Rattle.dactl_syntax.specs.Seen.{value_at}
+use Rattle.dactl_syntax.specs.Productions.{value_at}
 
 -- ---- values are within the bounds of their language
 

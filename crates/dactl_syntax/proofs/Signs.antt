@@ -10,7 +10,7 @@ use Rattle.dactl_syntax.specs.declared.token.Sort.{Sort}
 use Rattle.dactl_syntax.specs.declared.token.Sort.TheVariants as s
 use Rattle.dactl_meaning.specs.declared.tree.Name.{Name}
 use Rattle.dactl_syntax.specs.Sort.{same_sort}
-use Rattle.dactl_syntax.specs.Productions.{is, sign, name_of, upper, lower, letter}
+use Rattle.dactl_syntax.specs.Productions.{is, sign, name_of, upper, lower, letter, value_at}
 use Rattle.dactl_syntax.specs.Seen.{sort_of, keyword_sort, sign_sort}
 use Rattle.dactl_syntax.specs.Canonical.{word, line_end, character}
 use Rattle.dactl_meaning.specs.Unplaced.{bare_name}
@@ -168,11 +168,11 @@ module _ (wide : Bool) where
   lower_back name e = back_means name_of (SameBy bare_name name) (λ t h. ap (λ (w : List ℕ). record { text = w; place = record { byte = 0 } }) h)
       (back_one (is s.Lower) (record { kind = kinds.Lower; bytes = name.text; blank = 32 }) (λ t. t.word ≡ name.text) (record { kind = e; fits = λ i. absurd (no_integer_lower i); space = inl refl }) (λ place. refl) (λ place. refl))
 
-  pub integer_back : (value : ℤ) → mag value < bound wide → Back wide (sign s.Integer) (word (signed_decimal value)) (λ t. t.value ≡ value)
+  pub integer_back : (value : ℤ) → mag value < bound wide → Back wide (sign s.Integer) (word (signed_decimal value)) (λ t. value_at t.word ≡ value)
   unfolding sort_of same_sort
   integer_back value h =
       let spelled = decimal_spelled wide value h in
-      back_one (is s.Integer) (record { kind = kinds.Integer; bytes = signed_decimal value; blank = 32 }) (λ t. t.value ≡ value) (record { kind = spelled.kind; fits = λ i. spelled.fits; space = inl refl }) (λ place. refl) (λ place. spelled.value)
+      back_one (is s.Integer) (record { kind = kinds.Integer; bytes = signed_decimal value; blank = 32 }) (λ t. value_at t.word ≡ value) (record { kind = spelled.kind; fits = λ i. spelled.fits; space = inl refl }) (λ place. refl) (λ place. spelled.value)
 
   pub character_back : (w : List ℕ) → kind_of wide w ≡ Some kinds.Character → Back wide (sign s.Character) (character (letter w)) (λ t. letter t.word ≡ letter w)
   unfolding sort_of same_sort

@@ -21,9 +21,9 @@ use Rattle.dactl_tokens.proofs.OneReading.{kind_nil}
 use Rattle.dactl_syntax.specs.declared.token.Sort.{Sort}
 use Rattle.dactl_syntax.specs.declared.token.Sort.TheVariants as s
 use Rattle.dactl_syntax.specs.Sort.{same_sort}
-use Rattle.dactl_syntax.specs.Productions.{Tok, is, letter}
+use Rattle.dactl_syntax.specs.Productions.{Tok, is, letter, value_at}
 use Rattle.dactl_syntax.proofs.Numbers.{value_within}
-use Rattle.dactl_syntax.specs.Seen.{between, keyword_sort, sign_sort, sort_of, value_at, token_seen, tokens_seen}
+use Rattle.dactl_syntax.specs.Seen.{between, keyword_sort, sign_sort, sort_of, token_seen, tokens_seen}
 
 words_same : (w : List ℕ) → all is_word w ≡ list_all is_word_byte w
 words_same [] = refl
@@ -359,7 +359,7 @@ between_is text pre word more from to e f t =
 pub record IsTold (wide : Bool) (t : Tok) : Type 0 where
   pub upper : is s.Upper t ≡ true → kind_of wide t.word ≡ Some kinds.Upper
   pub lower : is s.Lower t ≡ true → kind_of wide t.word ≡ Some kinds.Lower
-  pub value : is s.Integer t ≡ true → mag t.value < bound wide
+  pub value : is s.Integer t ≡ true → mag (value_at t.word) < bound wide
   pub character : is s.Character t ≡ true → kind_of wide t.word ≡ Some kinds.Character
   pub char : is s.Char t ≡ true → wide ≡ true
 
@@ -383,7 +383,7 @@ pub record AreSeen (wide : Bool) (place : ℕ) (l : List Tok) : Type 0 where
 
 -- a token that is spelled by a word
 told_of : (wide : Bool) (t : Token) (word : List ℕ) → kind_of wide word ≡ Some t.kind → (t.kind ≡ kinds.Integer → is_too_wide wide word ≡ false)
-    → IsTold wide (record { sort = sort_of t.kind word; value = value_at word; word = word; place = t.from })
+    → IsTold wide (record { sort = sort_of t.kind word; word = word; place = t.from })
 told_of wide t word kind fits = record {
   upper = λ h. kind ∙ ap Some (upper_kind t.kind word h);
   lower = λ h. kind ∙ ap Some (lower_kind t.kind word h);
@@ -394,8 +394,8 @@ told_of wide t word kind fits = record {
 
 module _ (wide : Bool) (text : List ℕ) where
   seen_word : (before word more : List ℕ) (t : Token) → text ≡ before ++ (word ++ more) → t.from ≡ length before → t.to ≡ t.from + length word
-      → token_seen text t ≡ record { sort = sort_of t.kind word; value = value_at word; word = word; place = t.from }
-  seen_word before word more t e f g = ap (λ (w : List ℕ). record { sort = sort_of t.kind w; value = value_at w; word = w; place = t.from }) (between_is text before word more t.from t.to e f g)
+      → token_seen text t ≡ record { sort = sort_of t.kind word; word = word; place = t.from }
+  seen_word before word more t e f g = ap (λ (w : List ℕ). record { sort = sort_of t.kind w; word = w; place = t.from }) (between_is text before word more t.from t.to e f g)
 
   word_there : (k : TokenKind) (w : List ℕ) → kind_of wide w ≡ Some k → 0 < length w
   word_there k [] h = absurd (kind_nil wide k h)

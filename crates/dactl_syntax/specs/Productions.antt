@@ -1,7 +1,8 @@
 -- The grammar, one definition for each of its productions.
-use Rattle.std.specs.Prelude.{ℕ, zero, suc, ◌+◌, ℤ, Bool, true, false, ◌&&◌, List, [], ◌∷◌, length, Option, Some, None, is_some, unwrap_or, min}
+use Rattle.std.specs.Prelude.{ℕ, zero, suc, ◌+◌, ℤ, pos, Bool, true, false, ◌&&◌, List, [], ◌∷◌, length, Option, Some, None, is_some, unwrap_or, min, if◌then◌else◌}
 use Rattle.std.specs.Str.{bytes_eq}
 use Rattle.dactl_base.specs.declared.refusal.Place.{Place}
+use Rattle.dactl_tokens.specs.Spelling.{is_too_wide, value_of}
 use Rattle.dactl_syntax.specs.declared.token.Sort.{Sort}
 use Rattle.dactl_syntax.specs.declared.token.Sort.TheVariants as s
 use Rattle.dactl_meaning.specs.declared.tree.Name.{Name}
@@ -30,7 +31,6 @@ use Rattle.dactl_grammar.specs.Grammar.{Grammar, one, row, choice, maybe, many, 
 -- a token, its spelling and its place
 pub record Tok : Type 0 where
   pub sort : Sort
-  pub value : ℤ
   pub word : List ℕ
   pub place : ℕ
 
@@ -98,9 +98,13 @@ letter [] = 0
 letter (quote ∷ []) = 0
 letter (quote ∷ byte ∷ more) = byte
 
+-- the value of an integer's bytes, which fit 128 bits
+abbrev pub value_at : List ℕ → ℤ
+value_at w = if is_too_wide true w then pos 0 else value_of w
+
 -- node = Integer | Character | Upper ["[" {arg} "]"]
 abbrev pub integer_of : Tok → NodeTree
-integer_of t = node_tree.Integer t.value (here t)
+integer_of t = node_tree.Integer (value_at t.word) (here t)
 
 abbrev pub letter_of : Tok → NodeTree
 letter_of t = node_tree.Letter (letter t.word) (here t)
@@ -152,7 +156,7 @@ abbrev pub char_of : Tok → PatternTree
 char_of t = p.Char
 
 abbrev pub number_of : Tok → PatternTree
-number_of t = p.Integer t.value
+number_of t = p.Integer (value_at t.word)
 
 abbrev pub character_of : Tok → PatternTree
 character_of t = p.Letter (letter t.word)

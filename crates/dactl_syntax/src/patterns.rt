@@ -9,7 +9,7 @@ ghost use Rattle.dactl_grammar.specs.Giving.{Gives};
 ghost use Rattle.dactl_syntax.specs.Seen.{toks};
 
 use crate::terms::{lower, upper};
-use crate::token::{Sort, Terminal, letter, next_is, one};
+use crate::token::{Sort, Terminal, letter, next_is, one, value};
 use dactl_grammar::fault::{Fault, ReadError};
 use dactl_meaning::tree::{PatternTree, Sign};
 use sqlite_items::{Boxed, Items};
@@ -80,7 +80,8 @@ fn base<'a>(
     }
     if next_is(tokens, Sort::Integer) {
         let (token, rest) = one(text, tokens, Sort::Integer)?;
-        return Ok((PatternTree::Integer { value: token.value }, rest));
+        let value = value(text, token);
+        return Ok((PatternTree::Integer { value }, rest));
     }
     if next_is(tokens, Sort::Character) {
         let (token, rest) = one(text, tokens, Sort::Character)?;

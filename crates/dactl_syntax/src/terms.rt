@@ -7,7 +7,7 @@ ghost use Rattle.dactl_syntax.specs.Reading.{by, upper_at, lower_at, hashes_at, 
 ghost use Rattle.dactl_grammar.specs.Giving.{Gives};
 ghost use Rattle.dactl_syntax.specs.Seen.{toks};
 
-use crate::token::{Sort, Terminal, letter, name_at, next_is, one, place_of};
+use crate::token::{Sort, Terminal, letter, name_at, next_is, one, place_of, value};
 use dactl_grammar::fault::{Fault, ReadError};
 use dactl_meaning::tree::{ArgTree, Marks, Name, NodeTree, TermTree};
 use sqlite_items::Items;
@@ -76,7 +76,7 @@ fn node<'a>(
 {
     if next_is(tokens, Sort::Integer) {
         let (token, rest) = one(text, tokens, Sort::Integer)?;
-        let value = token.value;
+        let value = value(text, token);
         let place = place_of(token);
         return Ok((NodeTree::Integer { value, place }, rest));
     }

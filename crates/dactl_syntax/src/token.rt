@@ -3,7 +3,7 @@
 ghost use Rattle.std.specs.Prelude.{◌≡◌, ℕ, List, IfOk};
 ghost use Rattle.dactl_syntax.specs.Sort.{same_sort};
 ghost use Rattle.dactl_grammar.specs.Reader.{head_is};
-ghost use Rattle.dactl_syntax.specs.Productions.{name_of, letter};
+ghost use Rattle.dactl_syntax.specs.Productions.{name_of, letter, value_at};
 ghost use Rattle.dactl_syntax.specs.Reading.{by, read_sign};
 ghost use Rattle.dactl_grammar.specs.Giving.{Gives};
 ghost use Rattle.dactl_syntax.specs.Seen.{between, word_of, seen, toks};
@@ -11,6 +11,7 @@ ghost use Rattle.dactl_syntax.specs.Seen.{between, word_of, seen, toks};
 use dactl_base::refusal::Place;
 use dactl_grammar::fault::{Fault, ReadError};
 use dactl_meaning::tree::Name;
+use dactl_tokens::integer;
 use sqlite_items::Items;
 use std::alloc::{AllocError, Global};
 
@@ -55,11 +56,10 @@ pub enum Sort {
     Minus,
 }
 
-/// A token: its sort, its value if it is an integer, and where it stands in the text.
+/// A token: its sort, and where it stands in the text.
 #[derive(Clone, Copy, Debug)]
 pub struct Terminal {
     pub sort: Sort,
-    pub value: i128,
     pub from: u32,
     pub to: u32,
 }
@@ -88,6 +88,13 @@ pub fn word<'a>(text: &'a [u8], token: Terminal) -> &'a [u8]
     ensures { result.now ≡ word_of text.now token }
 {
     between(text, token.from, token.to)
+}
+
+/// The value of an integer, which is 0 where it doesn't fit 128 bits.
+pub fn value(text: &[u8], token: Terminal) -> i128
+    ensures { result ≡ value_at (word_of text.now token) }
+{
+    integer(true, word(text, token)).unwrap_or(0)
 }
 
 /// The byte of a character, which stands between its two `'`.

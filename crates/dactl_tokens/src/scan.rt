@@ -94,7 +94,7 @@ pub fn tokens(alloc: Global, text: &[u8]) -> Result<Vec<Token>, TextFault>
     ensures only_refused { (r : The_refusal) → IsFirstFault text.now r → RefusedOrMemory r result }
 {
     let (wide, behind) = language(text);
-    let mut found = Vec::new(alloc);
+    let mut found = Vec::with_capacity(alloc, text.len())?;
     if wide {
         found.push(HEADER)?;
     }
