@@ -11,7 +11,7 @@ use Rattle.fun_meaning.specs.declared.tree.Equation.{Equation}
 use Rattle.fun_meaning.specs.declared.tree.Fun.{Fun}
 use Rattle.fun_meaning.specs.Spelt.{weight_level, weight_of}
 use Rattle.fun_syntax.specs.declared.token.Sort.TheVariants as s
-use Rattle.fun_syntax.specs.Productions.{Tok, Part_of, upper, lower, name_of, given_of, given, variable_of, integer_of, made_of, expr, args, equation_of, equation, asked, fun_of, fun}
+use Rattle.fun_syntax.specs.Productions.{Tok, Part_of, upper, lower, name_of, given_of, given, variable_of, value_at, integer_of, made_of, expr, args, equation_of, equation, asked, fun_of, fun}
 use Rattle.fun_syntax.specs.Seen.{token_seen, tokens_seen}
 use Rattle.fun_syntax.specs.Answer.{most_open}
 use Rattle.fun_reading.specs.Statements.{ReadAreLight}
@@ -33,7 +33,7 @@ variable_few n =
 
 integer_few : (t : Tok) → weight_of (integer_of t) ≤ 2
 integer_few t =
-    let one : weight_of (integer_of t) ≡ 1 = ap weight_of (sym (rolls-Integer t.value)) ∙ fold-roll-Expr ℕ weight_level (Expr-F.Integer t.value) in
+    let one : weight_of (integer_of t) ≡ 1 = ap weight_of (sym (rolls-Integer (value_at t.word))) ∙ fold-roll-Expr ℕ weight_level (Expr-F.Integer (value_at t.word)) in
     omega (arith, one)
 
 made_few : (v : Name × List Expr) → weight_of (made_of v) ≤ 2 + total weight_of v.1

@@ -18,8 +18,8 @@ use Rattle.dactl_tokens.specs.Lexes.{Scans, ScansText, Lexes, has_header, header
 use Rattle.dactl_syntax.proofs.TokenFacts.{upper_named}
 use Rattle.fun_syntax.specs.declared.token.Sort.TheVariants as s
 use Rattle.fun_syntax.specs.Sort.{same_sort}
-use Rattle.fun_syntax.specs.Productions.{Tok, is}
-use Rattle.fun_syntax.specs.Seen.{between, sign_sort, sort_of, value_at, token_seen, tokens_seen}
+use Rattle.fun_syntax.specs.Productions.{Tok, is, value_at}
+use Rattle.fun_syntax.specs.Seen.{between, sign_sort, sort_of, token_seen, tokens_seen}
 
 -- ---- upper names
 
@@ -95,13 +95,13 @@ value_word (b ∷ w) = by (b == 45) (decimal 0 w) (decimal 0 (b ∷ w))
 -- an upper name is spelled as a name, and the value has 64 bits
 pub record IsSpelt (t : Tok) : Type 0 where
   pub upper : is s.Upper t ≡ true → is_upper_name false t.word ≡ true
-  pub value : is_word t.value ≡ true
+  pub value : is_word (value_at t.word) ≡ true
 
 abbrev pub AreSpeltTokens : List Tok → Type 0
 AreSpeltTokens l = Each IsSpelt l
 
 -- a token that is spelled by a word
-spelt_by : (wide : Bool) (t : Token) (word : List ℕ) → kind_of wide word ≡ Some t.kind → IsSpelt (record { sort = sort_of t.kind word; value = value_at word; word = word; place = t.from })
+spelt_by : (wide : Bool) (t : Token) (word : List ℕ) → kind_of wide word ≡ Some t.kind → IsSpelt (record { sort = sort_of t.kind word; word = word; place = t.from })
 spelt_by wide t word kind = record {
   upper = λ h. narrow_name wide word (upper_named wide word (kind ∙ ap Some (upper_kind t.kind word h)));
   value = value_word word;
@@ -119,8 +119,8 @@ between_is text pre word more from to e f t =
 
 module _ (wide : Bool) (text : List ℕ) where
   seen_word : (before word more : List ℕ) (t : Token) → text ≡ before ++ (word ++ more) → t.from ≡ length before → t.to ≡ t.from + length word
-      → token_seen text t ≡ record { sort = sort_of t.kind word; value = value_at word; word = word; place = t.from }
-  seen_word before word more t e f g = ap (λ (w : List ℕ). record { sort = sort_of t.kind w; value = value_at w; word = w; place = t.from }) (between_is text before word more t.from t.to e f g)
+      → token_seen text t ≡ record { sort = sort_of t.kind word; word = word; place = t.from }
+  seen_word before word more t e f g = ap (λ (w : List ℕ). record { sort = sort_of t.kind w; word = w; place = t.from }) (between_is text before word more t.from t.to e f g)
 
   spelt_from : (pre bytes : List ℕ) (place : ℕ) (ts : List Token) (end : ℕ) → text ≡ pre ++ bytes → place ≡ length pre → Scans wide place bytes ts end [] → AreSpeltTokens (tokens_seen text ts)
   spelt_from pre bytes place [] end e f w = tt

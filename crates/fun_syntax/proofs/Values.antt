@@ -6,7 +6,7 @@ use Rattle.std.specs.Int.{w64, w128}
 use Rattle.std.proofs.lemmas.Bool.{ltb-false, leb-false, lt-ltb}
 use Rattle.std.proofs.lemmas.Int.{to_z-of_z}
 use Rattle.dactl_tokens.specs.Spelling.{decimal, is_too_wide, value_of}
-use Rattle.fun_syntax.specs.Seen.{value_at}
+use Rattle.fun_syntax.specs.Productions.{value_at}
 
 -- the number after 0 - n
 minus_is : (n : ℕ) → pos 0 -ℤ pos (suc n) ≡ negsuc n

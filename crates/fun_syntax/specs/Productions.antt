@@ -1,7 +1,8 @@
 -- The grammar of equations, one definition for each of its productions.
-use Rattle.std.specs.Prelude.{ℕ, zero, suc, ℤ, Bool, List, [], ◌∷◌, Option, unwrap_or}
+use Rattle.std.specs.Prelude.{ℕ, zero, suc, ℤ, pos, Bool, false, List, [], ◌∷◌, Option, unwrap_or, if◌then◌else◌}
 use Rattle.std.specs.List.{flat_map}
 use Rattle.dactl_base.specs.declared.refusal.Place.{Place}
+use Rattle.dactl_tokens.specs.Spelling.{is_too_wide, value_of}
 use Rattle.dactl_meaning.specs.declared.tree.Name.{Name}
 use Rattle.dactl_grammar.specs.Grammar.{Grammar, one, row, choice, maybe, many, means, barred}
 use Rattle.fun_meaning.specs.declared.tree.Expr.{Expr}
@@ -15,7 +16,6 @@ use Rattle.fun_syntax.specs.Sort.{same_sort}
 -- a token, its spelling and its place
 pub record Tok : Type 0 where
   pub sort : Sort
-  pub value : ℤ
   pub word : List ℕ
   pub place : ℕ
 
@@ -68,8 +68,12 @@ given args = means given_of (maybe args)
 abbrev pub variable_of : Name → Expr
 variable_of n = x.Variable n
 
+-- the value of an integer's bytes, which fit 64 bits
+abbrev pub value_at : List ℕ → ℤ
+value_at w = if is_too_wide false w then pos 0 else value_of w
+
 abbrev pub integer_of : Tok → Expr
-integer_of t = x.Integer t.value
+integer_of t = x.Integer (value_at t.word)
 
 abbrev pub made_of : Name × List Expr → Expr
 made_of v = x.Made v.0 v.1

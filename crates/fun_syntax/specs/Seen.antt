@@ -1,10 +1,9 @@
 -- The tokens of a text as the grammar of equations sees them: by what they spell.
-use Rattle.std.specs.Prelude.{ℕ, ◌-◌, ℤ, pos, min, List, length, take, drop, map, if◌then◌else◌, codes, false}
+use Rattle.std.specs.Prelude.{ℕ, ◌-◌, min, List, length, take, drop, map, if◌then◌else◌, codes}
 use Rattle.std.specs.Str.{bytes_eq}
 use Rattle.dactl_tokens.specs.declared.token.Token.{Token}
 use Rattle.dactl_tokens.specs.declared.token.TokenKind.{TokenKind}
 use Rattle.dactl_tokens.specs.declared.token.TokenKind.TheVariants as kinds
-use Rattle.dactl_tokens.specs.Spelling.{is_too_wide, value_of}
 use Rattle.fun_syntax.specs.declared.token.Sort.{Sort}
 use Rattle.fun_syntax.specs.declared.token.Sort.TheVariants as s
 use Rattle.fun_syntax.specs.declared.token.Terminal.{Terminal}
@@ -39,25 +38,21 @@ sort_of kinds.Sign w = sign_sort w
 sort_of kinds.Header w = s.Foreign
 sort_of kinds.Character w = s.Foreign
 
--- the value of an integer's bytes, which fit 64 bits
-abbrev pub value_at : List ℕ → ℤ
-value_at w = if is_too_wide false w then pos 0 else value_of w
-
 -- a token, its bytes and its place
 abbrev pub token_seen : List ℕ → Token → Tok
-token_seen text t = record { sort = sort_of t.kind (between text t.from t.to); value = value_at (between text t.from t.to); word = between text t.from t.to; place = t.from }
+token_seen text t = record { sort = sort_of t.kind (between text t.from t.to); word = between text t.from t.to; place = t.from }
 
 -- the tokens of the text as the grammar sees them
 abbrev pub tokens_seen : List ℕ → List Token → List Tok
 tokens_seen text ts = map (token_seen text) ts
 
--- ---- the same for the tokens of the parser, which have their sorts and values
+-- ---- the same for the tokens of the parser, which have their sorts
 
 abbrev pub word_of : List ℕ → Terminal → List ℕ
 word_of text t = between text t.from t.to
 
 abbrev pub seen : List ℕ → Terminal → Tok
-seen text t = record { sort = t.sort; value = t.value; word = word_of text t; place = t.from }
+seen text t = record { sort = t.sort; word = word_of text t; place = t.from }
 
 abbrev pub toks : List ℕ → List Terminal → List Tok
 toks text ts = map (seen text) ts

@@ -19,7 +19,8 @@ fn comma_upper<'a>(
     text: &[u8],
     tokens: &'a [Terminal],
 ) -> Result<(Name, &'a [Terminal]), ReadError>
-    ensures { Gives (λ x. (x.0, toks text.now x.1.now)) result (spec.comma_upper_at (toks text.now tokens.now)) }
+    ensures { Gives (λ x. (x.0, toks text.now x.1.now)) result
+        (spec.comma_upper_at (toks text.now tokens.now)) }
 {
     let (_, rest) = one(text, tokens, Sort::Comma)?;
     upper(alloc, text, rest)
@@ -31,7 +32,8 @@ fn names<'a>(
     text: &[u8],
     tokens: &'a [Terminal],
 ) -> Result<(Items<Name>, &'a [Terminal]), ReadError>
-    ensures { Gives (λ x. (x.0, toks text.now x.1.now)) result (spec.names_at (toks text.now tokens.now)) }
+    ensures { Gives (λ x. (x.0, toks text.now x.1.now)) result
+        (spec.names_at (toks text.now tokens.now)) }
 {
     let (first, after) = upper(alloc, text, tokens)?;
     let mut found = Items::new(alloc);
@@ -51,7 +53,8 @@ fn data<'a>(
     text: &[u8],
     tokens: &'a [Terminal],
 ) -> Result<(Items<Name>, &'a [Terminal]), ReadError>
-    ensures { Gives (λ x. (x.0, toks text.now x.1.now)) result (spec.data_at (toks text.now tokens.now)) }
+    ensures { Gives (λ x. (x.0, toks text.now x.1.now)) result
+        (spec.data_at (toks text.now tokens.now)) }
 {
     let (_, rest) = one(text, tokens, Sort::Data)?;
     let (names, rest) = names(alloc, text, rest)?;
@@ -60,12 +63,18 @@ fn data<'a>(
 }
 
 /// Reads the names of all constructors.
+///
+/// # Errors
+///
+/// `Fault` with `Unexpected` at the first token with which no list of names goes on, and `Memory`
+/// where memory is wanting.
 pub fn constructors<'a>(
     alloc: Global,
     text: &[u8],
     tokens: &'a [Terminal],
 ) -> Result<(Items<Name>, &'a [Terminal]), ReadError>
-    ensures { Gives (λ x. (x.0, toks text.now x.1.now)) result (spec.constructors_at (toks text.now tokens.now)) }
+    ensures { Gives (λ x. (x.0, toks text.now x.1.now)) result
+        (spec.constructors_at (toks text.now tokens.now)) }
 {
     let mut found = Items::new(alloc);
     let mut rest = tokens;
@@ -85,7 +94,8 @@ fn right<'a>(
     tokens: &'a [Terminal],
     room: u32,
 ) -> Result<(Expr, &'a [Terminal]), ReadError>
-    ensures { Gives (λ x. (x.0, toks text.now x.1.now)) result (spec.right_at room (toks text.now tokens.now)) }
+    ensures { Gives (λ x. (x.0, toks text.now x.1.now)) result
+        (spec.right_at room (toks text.now tokens.now)) }
 {
     let (_, rest) = one(text, tokens, Sort::Equals)?;
     let (right, rest) = expr(alloc, text, rest, room)?;
@@ -100,7 +110,8 @@ fn equation<'a>(
     tokens: &'a [Terminal],
     room: u32,
 ) -> Result<(Equation, &'a [Terminal]), ReadError>
-    ensures { Gives (λ x. (x.0, toks text.now x.1.now)) result (spec.equation_at room (toks text.now tokens.now)) }
+    ensures { Gives (λ x. (x.0, toks text.now x.1.now)) result
+        (spec.equation_at room (toks text.now tokens.now)) }
 {
     let (head, rest) = upper(alloc, text, tokens)?;
     let (patterns, rest) = given(alloc, text, rest, room)?;
@@ -116,6 +127,11 @@ fn equation<'a>(
 }
 
 /// Reads the equations, with at most so many brackets open in each.
+///
+/// # Errors
+///
+/// `Fault` with `Unexpected` at the first token with which no equation goes on, or with `TooDeep`
+/// at the first bracket past `room`, and `Memory` where memory is wanting.
 #[tactic(auto, unfolding(crate::specs::Reading::equations_at))]
 pub fn equations<'a>(
     alloc: Global,
@@ -123,7 +139,8 @@ pub fn equations<'a>(
     tokens: &'a [Terminal],
     room: u32,
 ) -> Result<(Items<Equation>, &'a [Terminal]), ReadError>
-    ensures { Gives (λ x. (x.0, toks text.now x.1.now)) result (spec.equations_at room (toks text.now tokens.now)) }
+    ensures { Gives (λ x. (x.0, toks text.now x.1.now)) result
+        (spec.equations_at room (toks text.now tokens.now)) }
 {
     let mut found = Items::new(alloc);
     let mut rest = tokens;
@@ -135,7 +152,12 @@ pub fn equations<'a>(
     Ok((found, rest))
 }
 
-/// Reads what is asked for.
+/// Reads what is asked for, with at most so many brackets open.
+///
+/// # Errors
+///
+/// `Fault` with `Unexpected` at the first token with which no such part goes on, or with `TooDeep`
+/// at the first bracket past `room`, and `Memory` where memory is wanting.
 #[tactic(auto, unfolding(crate::specs::Reading::asked_at))]
 pub fn asked<'a>(
     alloc: Global,
@@ -143,7 +165,8 @@ pub fn asked<'a>(
     tokens: &'a [Terminal],
     room: u32,
 ) -> Result<(Expr, &'a [Terminal]), ReadError>
-    ensures { Gives (λ x. (x.0, toks text.now x.1.now)) result (spec.asked_at room (toks text.now tokens.now)) }
+    ensures { Gives (λ x. (x.0, toks text.now x.1.now)) result
+        (spec.asked_at room (toks text.now tokens.now)) }
 {
     let (_, rest) = one(text, tokens, Sort::Main)?;
     right(alloc, text, rest, room)

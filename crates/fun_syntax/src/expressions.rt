@@ -7,20 +7,27 @@ ghost use Rattle.fun_syntax.specs.Reading.{by, upper_at, lower_at, args_at, give
 ghost use Rattle.dactl_grammar.specs.Giving.{Gives};
 ghost use Rattle.fun_syntax.specs.Seen.{toks};
 
-use crate::token::{Sort, Terminal, name_at, next_is, one};
+use crate::token::{Sort, Terminal, name_at, next_is, one, value};
 use dactl_grammar::fault::{Fault, ReadError};
 use dactl_meaning::tree::Name;
 use fun_meaning::tree::Expr;
 use sqlite_items::Items;
 use std::alloc::Global;
 
+/// Reads a name that begins with `A` to `Z`.
+///
+/// # Errors
+///
+/// `Fault` where another token comes next, as `one` has it, and `Memory` where memory for the name
+/// is wanting.
 #[tactic(auto, unfolding(crate::specs::Reading::upper_at))]
 pub fn upper<'a>(
     alloc: Global,
     text: &[u8],
     tokens: &'a [Terminal],
 ) -> Result<(Name, &'a [Terminal]), ReadError>
-    ensures { Gives (λ x. (x.0, toks text.now x.1.now)) result (upper_at (toks text.now tokens.now)) }
+    ensures { Gives (λ x. (x.0, toks text.now x.1.now)) result
+        (upper_at (toks text.now tokens.now)) }
 {
     let (token, rest) = one(text, tokens, Sort::Upper)?;
     Ok((name_at(alloc, text, token)?, rest))
@@ -32,7 +39,8 @@ fn lower<'a>(
     text: &[u8],
     tokens: &'a [Terminal],
 ) -> Result<(Name, &'a [Terminal]), ReadError>
-    ensures { Gives (λ x. (x.0, toks text.now x.1.now)) result (lower_at (toks text.now tokens.now)) }
+    ensures { Gives (λ x. (x.0, toks text.now x.1.now)) result
+        (lower_at (toks text.now tokens.now)) }
 {
     let (token, rest) = one(text, tokens, Sort::Lower)?;
     Ok((name_at(alloc, text, token)?, rest))
@@ -55,7 +63,8 @@ fn args<'a>(
     tokens: &'a [Terminal],
     room: u32,
 ) -> Result<(Items<Expr>, &'a [Terminal]), ReadError>
-    ensures { Gives (λ x. (x.0, toks text.now x.1.now)) result (args_at room (toks text.now tokens.now)) }
+    ensures { Gives (λ x. (x.0, toks text.now x.1.now)) result
+        (args_at room (toks text.now tokens.now)) }
 {
     let (_, rest) = one(text, tokens, Sort::Open)?;
     if room == 0 {
@@ -73,7 +82,8 @@ fn arg_list<'a>(
     tokens: &'a [Terminal],
     room: u32,
 ) -> Result<(Items<Expr>, &'a [Terminal]), ReadError>
-    ensures { Gives (λ x. (x.0, toks text.now x.1.now)) result (read_many (by starts_expr) (expr_at room) (toks text.now tokens.now)) }
+    ensures { Gives (λ x. (x.0, toks text.now x.1.now)) result
+        (read_many (by starts_expr) (expr_at room) (toks text.now tokens.now)) }
 {
     let mut args = Items::new(alloc);
     let mut rest = tokens;
@@ -86,6 +96,11 @@ fn arg_list<'a>(
 }
 
 /// Reads the arguments or patterns of a name, if there are any, with at most so many brackets open.
+///
+/// # Errors
+///
+/// `Fault` with `Unexpected` at the first token with which no expression goes on, or with
+/// `TooDeep` at the first bracket past `room`, and `Memory` where memory is wanting.
 #[tactic(auto, unfolding(crate::specs::Reading::given_at))]
 #[cycle(expressions)]
 pub fn given<'a>(
@@ -94,7 +109,8 @@ pub fn given<'a>(
     tokens: &'a [Terminal],
     room: u32,
 ) -> Result<(Items<Expr>, &'a [Terminal]), ReadError>
-    ensures { Gives (λ x. (x.0, toks text.now x.1.now)) result (given_at room (toks text.now tokens.now)) }
+    ensures { Gives (λ x. (x.0, toks text.now x.1.now)) result
+        (given_at room (toks text.now tokens.now)) }
 {
     if next_is(tokens, Sort::Open) {
         args(alloc, text, tokens, room)
@@ -104,6 +120,11 @@ pub fn given<'a>(
 }
 
 /// Reads an expression, with at most so many brackets open.
+///
+/// # Errors
+///
+/// `Fault` with `Unexpected` at the first token with which no expression goes on, or with
+/// `TooDeep` at the first bracket past `room`, and `Memory` where memory is wanting.
 #[tactic(auto, unfolding(crate::specs::Reading::expr_at, crate::specs::Reading::given_at))]
 #[cycle(expressions)]
 pub fn expr<'a>(
@@ -112,7 +133,8 @@ pub fn expr<'a>(
     tokens: &'a [Terminal],
     room: u32,
 ) -> Result<(Expr, &'a [Terminal]), ReadError>
-    ensures { Gives (λ x. (x.0, toks text.now x.1.now)) result (expr_at room (toks text.now tokens.now)) }
+    ensures { Gives (λ x. (x.0, toks text.now x.1.now)) result
+        (expr_at room (toks text.now tokens.now)) }
 {
     if next_is(tokens, Sort::Lower) {
         let (name, rest) = lower(alloc, text, tokens)?;
@@ -120,7 +142,8 @@ pub fn expr<'a>(
     }
     if next_is(tokens, Sort::Integer) {
         let (token, rest) = one(text, tokens, Sort::Integer)?;
-        return Ok((Expr::Integer { value: token.value }, rest));
+        let value = value(text, token);
+        return Ok((Expr::Integer { value }, rest));
     }
     let (name, rest) = upper(alloc, text, tokens)?;
     let (args, rest) = given(alloc, text, rest, room)?;

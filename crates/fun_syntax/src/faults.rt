@@ -4,7 +4,8 @@ ghost use Rattle.std.specs.Prelude.{◌≡◌, ◌≤◌, ◌+◌, ◌&&◌, ◌
 ghost use Rattle.fun_syntax.specs.Words.{found_in};
 ghost use Rattle.fun_syntax.specs.Least.{least};
 ghost use Rattle.fun_syntax.specs.Pieces.{pieces_of as the_pieces};
-ghost use Rattle.fun_syntax.specs.Roles.{with_constructor, with_constructors, with_function, with_functions, roles_of, is_called};
+ghost use Rattle.fun_syntax.specs.Roles.{with_constructor, with_constructors, with_function};
+ghost use Rattle.fun_syntax.specs.Roles.{with_functions, roles_of, is_called};
 ghost use Rattle.fun_syntax.specs.Faults as spec;
 ghost use Rattle.std.specs.List.{flat_map};
 
@@ -40,8 +41,10 @@ fn declare_constructor(
     room: usize,
     name: &Name,
 ) -> Result<Option<Refusal>, Memory>
-    ensures fault { IfOk result (λ fault. fault ≡ least (spec.constructor_faults (found_in roles.old) room name.now)) }
-    ensures roles { OnOk result (found_in roles.new ≡ with_constructor (found_in roles.old) name.now) }
+    ensures fault { IfOk result
+        (λ fault. fault ≡ least (spec.constructor_faults (found_in roles.old) room name.now)) }
+    ensures roles { OnOk result
+        (found_in roles.new ≡ with_constructor (found_in roles.old) name.now) }
 {
     let word = name.text.as_slice();
     let there = enter(roles, alloc, word, Role::Constructor)?;
@@ -52,8 +55,10 @@ fn declare_constructor(
 
 /// Declares constructors.
 fn data_fault(roles: &mut Roles, alloc: Global, names: &[Name]) -> Result<Option<Refusal>, Memory>
-    ensures fault { IfOk result (λ fault. fault ≡ least (spec.data_faults (found_in roles.old) spec.most_names names.now)) }
-    ensures roles { OnOk result (found_in roles.new ≡ with_constructors (found_in roles.old) names.now) }
+    ensures fault { IfOk result (λ fault. fault ≡
+        least (spec.data_faults (found_in roles.old) spec.most_names names.now)) }
+    ensures roles { OnOk result
+        (found_in roles.new ≡ with_constructors (found_in roles.old) names.now) }
 {
     let mut told = None;
     let mut room = MOST_NAMES;
@@ -71,7 +76,8 @@ fn data_fault(roles: &mut Roles, alloc: Global, names: &[Name]) -> Result<Option
 fn declare_function(roles: &mut Roles, alloc: Global, equation: &Equation) -> Result<usize, Memory>
     ensures new { IfOk result (λ new. new ≡ spec.new_functions (found_in roles.old) equation.now) }
     ensures within { IfOk result (λ new. new ≤ 1) }
-    ensures roles { OnOk result (found_in roles.new ≡ with_function (found_in roles.old) equation.now) }
+    ensures roles { OnOk result
+        (found_in roles.new ≡ with_function (found_in roles.old) equation.now) }
 {
     let arity = equation.patterns.len();
     let word = equation.head.text.as_slice();
@@ -86,7 +92,8 @@ fn is_beyond(names: usize, rules: usize, new: usize) -> bool
     names < new || rules < 1 + new
 }
 
-/// The fault of a head that makes so many functions, where there is room for so many names and rules.
+/// The fault of a head that makes so many functions, where there is room for so many names and
+/// rules.
 fn declaring_fault(names: usize, rules: usize, head: &Name, new: usize) -> Option<Refusal>
     requires { new ≤ 1 }
     ensures { result ≡ least (spec.declaring_faults names rules head.now new) }
@@ -104,8 +111,10 @@ fn head_fault(
     room: usize,
     equations: &[Equation],
 ) -> Result<Option<Refusal>, Memory>
-    ensures fault { IfOk result (λ fault. fault ≡ least (spec.head_faults (found_in roles.old) room spec.most_rules equations.now)) }
-    ensures roles { OnOk result (found_in roles.new ≡ with_functions (found_in roles.old) equations.now) }
+    ensures fault { IfOk result (λ fault. fault ≡
+        least (spec.head_faults (found_in roles.old) room spec.most_rules equations.now)) }
+    ensures roles { OnOk result
+        (found_in roles.new ≡ with_functions (found_in roles.old) equations.now) }
 {
     let mut told = None;
     let mut names = room;
@@ -195,7 +204,8 @@ fn expression_fault(
     bound: &Bound,
     tree: &Expr,
 ) -> Result<Option<Refusal>, Memory>
-    ensures { IfOk result (λ fault. fault ≡ least (spec.expression_faults (found_in roles.now) (found_in bound.now) (the_pieces tree.now))) }
+    ensures { IfOk result (λ fault. fault ≡ least
+        (spec.expression_faults (found_in roles.now) (found_in bound.now) (the_pieces tree.now))) }
 {
     let found = pieces_in(alloc, tree)?;
     let names = use_fault(roles, false, found.as_slice());
@@ -211,8 +221,10 @@ fn left_side_fault(
     equation: &Equation,
     pieces: &[Piece],
 ) -> Result<Option<Refusal>, Memory>
-    ensures fault { IfOk result (λ fault. fault ≡ least (spec.side_faults (found_in roles.now) (found_in bound.old) equation.now.head (length equation.now.patterns) pieces.now)) }
-    ensures bound { OnOk result (found_in bound.new ≡ spec.with_pieces (found_in bound.old) pieces.now) }
+    ensures fault { IfOk result (λ fault. fault ≡ least (spec.side_faults (found_in roles.now)
+        (found_in bound.old) equation.now.head (length equation.now.patterns) pieces.now)) }
+    ensures bound { OnOk result
+        (found_in bound.new ≡ spec.with_pieces (found_in bound.old) pieces.now) }
 {
     let head = &equation.head;
     let role = role_of(roles, head.text.as_slice());
@@ -227,7 +239,8 @@ fn equation_fault(
     roles: &Roles,
     equation: &Equation,
 ) -> Result<Option<Refusal>, Memory>
-    ensures { IfOk result (λ fault. fault ≡ least (spec.equation_faults (found_in roles.now) equation.now)) }
+    ensures { IfOk result (λ fault. fault ≡
+        least (spec.equation_faults (found_in roles.now) equation.now)) }
 {
     let pieces = pieces_of(alloc, equation.patterns.as_slice())?;
     let mut bound = BTreeMap::new(alloc);
@@ -241,7 +254,8 @@ fn equations_fault(
     roles: &Roles,
     equations: &[Equation],
 ) -> Result<Option<Refusal>, Memory>
-    ensures { IfOk result (λ fault. fault ≡ least (flat_map (spec.equation_faults (found_in roles.now)) equations.now)) }
+    ensures { IfOk result (λ fault. fault ≡
+        least (flat_map (spec.equation_faults (found_in roles.now)) equations.now)) }
 {
     let mut told = None;
     for equation in equations {
@@ -252,6 +266,10 @@ fn equations_fault(
 }
 
 /// The fault of equations that is told, if there is one.
+///
+/// # Errors
+///
+/// Where memory is wanting.
 pub fn first_fault(alloc: Global, fun: &Fun) -> Result<Option<Refusal>, Memory>
     ensures { IfOk result (λ fault. fault ≡ least (spec.faults_of fun.now)) }
 {

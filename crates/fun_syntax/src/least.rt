@@ -34,8 +34,8 @@ fn comes_before(a: Refusal, b: Refusal) -> bool
     rank_of(a.kind) < rank_of(b.kind)
 }
 
-/// The one of two faults that is told where both hold: the one at the lesser place, and at one place
-/// the one whose kind stands first. With `None` for one of them it is the other.
+/// The one of two faults that is told where both hold: the one at the lesser place, and at one
+/// place the one whose kind stands first. With `None` for one of them it is the other.
 pub fn lesser(a: Option<Refusal>, b: Option<Refusal>) -> Option<Refusal>
     ensures { result ≡ sooner a b }
 {

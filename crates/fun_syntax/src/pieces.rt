@@ -60,6 +60,10 @@ fn gather_all(found: &mut Vec<Piece>, alloc: Global, trees: &[Expr]) -> Result<(
 }
 
 /// The pieces of expressions one after the other, each name before its arguments.
+///
+/// # Errors
+///
+/// Where memory is wanting.
 pub fn pieces_of(alloc: Global, trees: &[Expr]) -> Result<Vec<Piece>, Memory>
     ensures { IfOk result (λ found. found.items ≡ flat_map the_pieces trees.now) }
 {
@@ -69,6 +73,10 @@ pub fn pieces_of(alloc: Global, trees: &[Expr]) -> Result<Vec<Piece>, Memory>
 }
 
 /// The pieces of one expression.
+///
+/// # Errors
+///
+/// Where memory is wanting.
 pub fn pieces_in(alloc: Global, tree: &Expr) -> Result<Vec<Piece>, Memory>
     ensures { IfOk result (λ found. found.items ≡ the_pieces tree.now) }
 {

@@ -15,10 +15,10 @@ use std::alloc::Global;
 /// # Errors
 ///
 /// `Refused` with the fault of the first phase that has one. Phase 1 is the tokens: `BadByte` and
-/// `NumberTooWide`. Phase 2 is the grammar: `Unexpected` at the first token with which the tokens so
-/// far begin no text (a text of language 2 has it at its Header), `TooDeep` at the first bracket that
-/// makes more than 100 open. Phase 3 is what the names are, by the least place. `Memory` where memory
-/// is wanting, which tells nothing of the text.
+/// `NumberTooWide`. Phase 2 is the grammar: `Unexpected` at the first token with which the tokens
+/// so far begin no text (a text of language 2 has it at its Header), `TooDeep` at the first
+/// bracket that makes more than 100 open. Phase 3 is what the names are, by the least place.
+/// `Memory` where memory is wanting, which tells nothing of the text.
 pub fn read_fun(alloc: Global, text: &[u8]) -> Result<Fun, TextFault>
     requires { length text.now ≤ 1048576 }
     ensures { Answers text.now result }

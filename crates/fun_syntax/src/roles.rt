@@ -61,6 +61,10 @@ pub fn role_of(roles: &Roles, word: &[u8]) -> Option<Role>
 }
 
 /// What is declared before a text.
+///
+/// # Errors
+///
+/// Where memory is wanting.
 pub fn built_ins(alloc: Global) -> Result<Roles, Memory>
     ensures { IfOk result (λ roles. found_in roles ≡ built_in) }
 {

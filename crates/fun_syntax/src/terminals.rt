@@ -1,10 +1,11 @@
-//! From the tokens of a text to those of the parser: each with its sort and its value.
+//! From the tokens of a text to those of the parser: each with its sort.
 
 ghost use Rattle.std.specs.Prelude.{◌≡◌, IfOk};
-ghost use Rattle.fun_syntax.specs.Seen.{between, upper_sort, sign_sort, sort_of, value_at, seen, toks, token_seen, tokens_seen};
+ghost use Rattle.fun_syntax.specs.Seen.{between, upper_sort, sign_sort, sort_of, seen, toks};
+ghost use Rattle.fun_syntax.specs.Seen.{token_seen, tokens_seen};
 
 use crate::token::{Sort, Terminal, between};
-use dactl_tokens::{Token, TokenKind, integer};
+use dactl_tokens::{Token, TokenKind};
 use std::alloc::{AllocError, Global};
 
 #[tactic(auto, unfolding(crate::specs::Seen::upper_sort))]
@@ -52,32 +53,26 @@ fn sort_of(kind: TokenKind, word: &[u8]) -> Sort
     }
 }
 
-fn value_at(word: &[u8]) -> i64
-    ensures { result ≡ value_at word.now }
-{
-    match integer(false, word) {
-        Some(value) => value as i64,
-        None => 0,
-    }
-}
-
 fn terminal(text: &[u8], token: Token) -> Terminal
     ensures { seen text.now result ≡ token_seen text.now token }
 {
     let word = between(text, token.from, token.to);
     Terminal {
         sort: sort_of(token.kind, word),
-        value: value_at(word),
         from: token.from,
         to: token.to,
     }
 }
 
-/// The tokens with their sorts and values.
+/// The tokens of a text with their sorts, in the same order.
+///
+/// # Errors
+///
+/// Where memory for all of the tokens is wanting, which is asked for at once.
 pub fn terminals(alloc: Global, text: &[u8], tokens: &[Token]) -> Result<Vec<Terminal>, AllocError>
     ensures { IfOk result (λ found. toks text.now found.items ≡ tokens_seen text.now tokens.now) }
 {
-    let mut found = Vec::new(alloc);
+    let mut found = Vec::with_capacity(alloc, tokens.len())?;
     for token in tokens {
         found.push(terminal(text, *token))?;
     }

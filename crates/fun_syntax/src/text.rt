@@ -41,10 +41,12 @@ fn whole(alloc: Global, text: &[u8], tokens: &[Terminal]) -> Result<Fun, ReadErr
     })
 }
 
-/// Where the token stands that has so many tokens from it on: the end of the text where there are none.
+/// Where the token stands that has so many tokens from it on: the end of the text where there are
+/// none.
 fn place_from(text: &[u8], tokens: &[Terminal], left: usize) -> Place
     requires { length text.now ≤ 1048576 }
-    ensures { result.byte ≡ next_place (length text.now) (drop (length tokens.now - left) (toks text.now tokens.now)) }
+    ensures { result.byte ≡ next_place (length text.now)
+        (drop (length tokens.now - left) (toks text.now tokens.now)) }
 {
     match tokens.get(tokens.len().saturating_sub(left)) {
         Some(token) => place_of(*token),
@@ -70,15 +72,23 @@ fn refusal_of(text: &[u8], tokens: &[Terminal], fault: Fault) -> Refusal
     }
 }
 
-/// The equations of a text, which is given with its tokens, or the first fault: `Unexpected` at the
-/// first token with which the tokens so far begin no text (at the text's length where the text ends
-/// too early), `TooDeep` at the first bracket that makes more than 100 open.
+/// The equations of a text, which is given with its tokens.
+///
+/// # Errors
+///
+/// `Refused` with the first fault: `Unexpected` at the first token with which the tokens so far
+/// begin no text (at the text's length where the text ends too early), `TooDeep` at the first
+/// bracket that makes more than 100 open. `Memory` where memory is wanting, which tells nothing of
+/// the text.
 pub fn parse(alloc: Global, text: &[u8], tokens: &[Token]) -> Result<Fun, TextFault>
     requires short { length text.now ≤ 1048576 }
     ensures found { IfOk result (AreEquations text.now tokens.now) }
-    ensures only { (e : The_fun) → AreEquations text.now tokens.now e → OkOrMemory (λ found. found) e result }
-    ensures refused { (r : The_refusal) → result ≡ Err (Refused r) → IsFirstFault text.now tokens.now r }
-    ensures only_refused { (r : The_refusal) → IsFirstFault text.now tokens.now r → RefusedOrMemory r result }
+    ensures only { (e : The_fun) → AreEquations text.now tokens.now e →
+        OkOrMemory (λ found. found) e result }
+    ensures refused { (r : The_refusal) → result ≡ Err (Refused r) →
+        IsFirstFault text.now tokens.now r }
+    ensures only_refused { (r : The_refusal) → IsFirstFault text.now tokens.now r →
+        RefusedOrMemory r result }
 {
     let terminals = terminals(alloc, text, tokens)?;
     match whole(alloc, text, terminals.as_slice()) {

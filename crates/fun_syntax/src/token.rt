@@ -3,7 +3,7 @@
 ghost use Rattle.std.specs.Prelude.{◌≡◌, ℕ, List, IfOk};
 ghost use Rattle.fun_syntax.specs.Sort.{same_sort};
 ghost use Rattle.dactl_grammar.specs.Reader.{head_is};
-ghost use Rattle.fun_syntax.specs.Productions.{name_of};
+ghost use Rattle.fun_syntax.specs.Productions.{name_of, value_at};
 ghost use Rattle.fun_syntax.specs.Reading.{by, read_sign};
 ghost use Rattle.dactl_grammar.specs.Giving.{Gives};
 ghost use Rattle.fun_syntax.specs.Seen.{between, word_of, seen, toks};
@@ -11,6 +11,7 @@ ghost use Rattle.fun_syntax.specs.Seen.{between, word_of, seen, toks};
 use dactl_base::refusal::Place;
 use dactl_grammar::fault::{Fault, ReadError};
 use dactl_meaning::tree::Name;
+use dactl_tokens::integer;
 use sqlite_items::Items;
 use std::alloc::{AllocError, Global};
 
@@ -31,15 +32,15 @@ pub enum Sort {
     Foreign,
 }
 
-/// A token: its sort, its value if it is an integer, and where it stands in the text.
+/// A token: its sort, and where it stands in the text.
 #[derive(Clone, Copy, Debug)]
 pub struct Terminal {
     pub sort: Sort,
-    pub value: i64,
     pub from: u32,
     pub to: u32,
 }
 
+/// Whether two sorts are the same.
 #[tactic(auto, unfolding(crate::specs::Sort::same_sort))]
 pub fn same_sort(a: Sort, b: Sort) -> bool
     ensures { result ≡ same_sort a b }
@@ -66,6 +67,22 @@ fn word<'a>(text: &'a [u8], token: Terminal) -> &'a [u8]
     between(text, token.from, token.to)
 }
 
+fn value_at(word: &[u8]) -> i64
+    ensures { result ≡ value_at word.now }
+{
+    match integer(false, word) {
+        Some(value) => value as i64,
+        None => 0,
+    }
+}
+
+/// The value of an integer, which is 0 where it doesn't fit 64 bits.
+pub fn value(text: &[u8], token: Terminal) -> i64
+    ensures { result ≡ value_at (word_of text.now token) }
+{
+    value_at(word(text, token))
+}
+
 /// Where a token stands.
 pub fn place_of(token: Terminal) -> Place
     ensures { result ≡ record { byte = token.from } }
@@ -74,6 +91,10 @@ pub fn place_of(token: Terminal) -> Place
 }
 
 /// The name that a token spells.
+///
+/// # Errors
+///
+/// Where memory for the bytes of the name is wanting.
 pub fn name_at(alloc: Global, text: &[u8], token: Terminal) -> Result<Name, AllocError>
     ensures { IfOk result (λ name. name ≡ name_of (seen text.now token)) }
 {
@@ -93,13 +114,19 @@ pub fn next_is(tokens: &[Terminal], sort: Sort) -> bool
     }
 }
 
-/// Reads one token of this sort.
+/// Reads one token of this sort, and answers it with the tokens behind it.
+///
+/// # Errors
+///
+/// `Fault` with `Unexpected` at the next token where it is of another sort, and at the end of the
+/// tokens where none is left. Memory is never wanting.
 pub fn one<'a>(
     text: &[u8],
     tokens: &'a [Terminal],
     sort: Sort,
 ) -> Result<(Terminal, &'a [Terminal]), ReadError>
-    ensures { Gives (λ x. (seen text.now x.0, toks text.now x.1.now)) result (read_sign sort (toks text.now tokens.now)) }
+    ensures { Gives (λ x. (seen text.now x.0, toks text.now x.1.now)) result
+        (read_sign sort (toks text.now tokens.now)) }
 {
     match tokens {
         [] => Err(ReadError::Fault(Fault::Unexpected { left: 0 })),

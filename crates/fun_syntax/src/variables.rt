@@ -17,8 +17,10 @@ pub type Bound = BTreeMap<Vec<u8>, Place>;
 
 /// Adds the variable that a piece is, if it is one.
 fn bind(bound: &mut Bound, alloc: Global, piece: &Piece) -> Result<Option<Refusal>, Memory>
-    ensures fault { IfOk result (λ fault. fault ≡ least (spec.again_faults (found_in bound.old) piece.now)) }
-    ensures bound { OnOk result (found_in bound.new ≡ spec.with_piece (found_in bound.old) piece.now) }
+    ensures fault { IfOk result
+        (λ fault. fault ≡ least (spec.again_faults (found_in bound.old) piece.now)) }
+    ensures bound { OnOk result
+        (found_in bound.new ≡ spec.with_piece (found_in bound.old) piece.now) }
 {
     match piece {
         Piece::Variable { name } => {
@@ -30,13 +32,19 @@ fn bind(bound: &mut Bound, alloc: Global, piece: &Piece) -> Result<Option<Refusa
 }
 
 /// Adds the variables of a left side, and answers the first that stands there before.
+///
+/// # Errors
+///
+/// Where memory is wanting; `bound` then has the variables that were added before.
 pub fn twice_fault(
     bound: &mut Bound,
     alloc: Global,
     pieces: &[Piece],
 ) -> Result<Option<Refusal>, Memory>
-    ensures fault { IfOk result (λ fault. fault ≡ least (spec.twice_faults (found_in bound.old) pieces.now)) }
-    ensures bound { OnOk result (found_in bound.new ≡ spec.with_pieces (found_in bound.old) pieces.now) }
+    ensures fault { IfOk result
+        (λ fault. fault ≡ least (spec.twice_faults (found_in bound.old) pieces.now)) }
+    ensures bound { OnOk result
+        (found_in bound.new ≡ spec.with_pieces (found_in bound.old) pieces.now) }
 {
     let mut told = None;
     let mut rest = pieces;

@@ -9,6 +9,10 @@ use std::alloc::Global;
 use std::collections::BTreeMap;
 
 /// Enters a word, unless it is there already, and answers whether it was.
+///
+/// # Errors
+///
+/// Where memory for the word or its entry is wanting.
 pub fn enter<V: Drop>(
     words: &mut BTreeMap<Vec<u8>, V>,
     alloc: Global,
@@ -16,7 +20,8 @@ pub fn enter<V: Drop>(
     value: V,
 ) -> Result<bool, Memory>
     ensures there { IfOk result (λ there. there ≡ is_some (found_in words.old word.now)) }
-    ensures added { OnOk result (found_in words.new ≡ with_word (found_in words.old) word.now value) }
+    ensures added { OnOk result
+        (found_in words.new ≡ with_word (found_in words.old) word.now value) }
 {
     if words.contains_key(word) {
         return Ok(true);
