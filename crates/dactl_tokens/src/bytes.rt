@@ -3,36 +3,42 @@
 ghost use Rattle.std.specs.Prelude.{◌≡◌, ◌==◌, ◌&&◌};
 ghost use Rattle.dactl_tokens.specs.Spelling as spell;
 
+/// Whether a byte is a space, a tab, LF or CR.
 pub fn is_blank(byte: u8) -> bool
     ensures { result ≡ spell.is_blank byte }
 {
     byte == b' ' || byte == b'\t' || byte == b'\n' || byte == b'\r'
 }
 
+/// Whether a byte is `A` to `Z`.
 pub fn is_upper(byte: u8) -> bool
     ensures { result ≡ spell.is_upper byte }
 {
     b'A' <= byte && byte <= b'Z'
 }
 
+/// Whether a byte is `a` to `z`.
 pub fn is_lower(byte: u8) -> bool
     ensures { result ≡ spell.is_lower byte }
 {
     b'a' <= byte && byte <= b'z'
 }
 
+/// Whether a byte is `0` to `9`.
 pub fn is_digit(byte: u8) -> bool
     ensures { result ≡ spell.is_digit byte }
 {
     b'0' <= byte && byte <= b'9'
 }
 
+/// Whether a name may go on with a byte: a letter, a digit or `_`.
 pub fn is_word(byte: u8) -> bool
     ensures { result ≡ spell.is_word byte }
 {
     is_upper(byte) || is_lower(byte) || is_digit(byte) || byte == b'_'
 }
 
+/// Whether a byte alone is a sign.
 #[tactic(auto, unfolding(crate::specs::Spelling::is_sign_byte))]
 pub fn is_sign_byte(byte: u8) -> bool
     ensures { result ≡ spell.is_sign_byte byte }
@@ -53,6 +59,7 @@ pub fn is_sign_byte(byte: u8) -> bool
         || byte == b'-'
 }
 
+/// Whether two bytes are one sign: `:=`, `=>` or `->`.
 #[tactic(auto, unfolding(crate::specs::Spelling::is_long_sign))]
 pub fn is_long_sign(first: u8, second: u8) -> bool
     ensures { result ≡ spell.is_long_sign first second }

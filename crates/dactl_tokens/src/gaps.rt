@@ -8,7 +8,8 @@ use crate::bytes::is_blank;
 
 /// What stands behind the next `}`.
 fn close(bytes: &[u8]) -> Option<&[u8]>
-    ensures some { IfSome result (λ rest. Closes bytes.now rest.now × (length rest.now < length bytes.now)) }
+    ensures some { IfSome result
+        (λ rest. Closes bytes.now rest.now × (length rest.now < length bytes.now)) }
     ensures none { IfNone result (Open bytes.now) }
 {
     let mut rest = bytes;
@@ -23,7 +24,8 @@ fn close(bytes: &[u8]) -> Option<&[u8]>
 
 /// What stands behind one blank or comment.
 fn gap_step(bytes: &[u8]) -> Option<&[u8]>
-    ensures some { IfSome result (λ rest. Skips bytes.now rest.now × (length rest.now < length bytes.now)) }
+    ensures some { IfSome result
+        (λ rest. Skips bytes.now rest.now × (length rest.now < length bytes.now)) }
     ensures none { IfNone result (Halts bytes.now) }
 {
     match bytes {

@@ -1,6 +1,7 @@
 //! The value of an integer.
 
-ghost use Rattle.std.specs.Prelude.{◌≡◌, ◌+◌, ◌^◌, min, pos, ◌-ℤ◌, nat_lt, nat_le, if◌then◌else◌, Some, None};
+ghost use Rattle.std.specs.Prelude.{◌≡◌, ◌+◌, ◌^◌, min, pos, ◌-ℤ◌, nat_lt, nat_le, if◌then◌else◌};
+ghost use Rattle.std.specs.Prelude.{Some, None};
 ghost use Rattle.dactl_tokens.specs.Spelling.{decimal, bound, is_too_wide, value_of};
 
 /// How far below zero an integer of 128 bits may be.
@@ -38,7 +39,8 @@ fn above(wide: bool, magnitude: u128) -> Option<i128>
 }
 
 fn below(wide: bool, magnitude: u128) -> Option<i128>
-    ensures { result ≡ (if nat_lt (bound wide) magnitude then None else Some (pos 0 -ℤ pos magnitude)) }
+    ensures { result ≡ (if nat_lt (bound wide) magnitude then None else Some
+        (pos 0 -ℤ pos magnitude)) }
 {
     if magnitude > bound(wide) {
         return None;

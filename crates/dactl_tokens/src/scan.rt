@@ -50,7 +50,8 @@ fn next_token(wide: bool, place: u32, bytes: &[u8]) -> Result<(Token, &[u8]), Te
     requires more { 0 < length bytes.now }
     requires fits { place + length bytes.now < 2 ^ 32 }
     ensures token { IfOk result (λ x. TokenThere wide place bytes.now x.1.now x.0) }
-    ensures fault { (r : The_refusal) → result ≡ Err (Refused r) → FaultThere wide place bytes.now r }
+    ensures fault { (r : The_refusal) → result ≡ Err (Refused r) →
+        FaultThere wide place bytes.now r }
 {
     match longest(wide, bytes) {
         None => Err(refused(Kind::BadByte, place)),
@@ -84,12 +85,20 @@ fn language(text: &[u8]) -> (bool, &[u8])
     }
 }
 
-/// The tokens of a text, with rising places, or its first fault: `BadByte` or `NumberTooWide`. The
-/// text is of language 2 where it begins with `DACTL 2;`, and its first token is the Header then.
+/// The tokens of a text, with rising places. The text is of language 2 where it begins with
+/// `DACTL 2;`, and its first token is the Header then.
+///
+/// # Errors
+///
+/// `Refused` with the first fault of the text, at its first byte: `BadByte` where neither a gap
+/// goes on nor a token stands, and `NumberTooWide` where an integer stands that the language
+/// doesn't have. `Memory` where memory is wanting, which tells nothing of the text: room for as
+/// many tokens as the text has bytes is asked for at once.
 pub fn tokens(alloc: Global, text: &[u8]) -> Result<Vec<Token>, TextFault>
     requires short { length text.now ≤ 1048576 }
     ensures found { IfOk result (λ found. Lexes text.now found.items) }
-    ensures only { (ts : List The_token) → Lexes text.now ts → OkOrMemory (λ found. found.items) ts result }
+    ensures only { (ts : List The_token) → Lexes text.now ts →
+        OkOrMemory (λ found. found.items) ts result }
     ensures refused { (r : The_refusal) → result ≡ Err (Refused r) → IsFirstFault text.now r }
     ensures only_refused { (r : The_refusal) → IsFirstFault text.now r → RefusedOrMemory r result }
 {
