@@ -31,7 +31,8 @@ fn sink_of(alloc: Global, room: usize, chunk: usize) -> Result<MemorySink, Alloc
     MemorySink::new(alloc, room, chunk, Vec::new(alloc))
 }
 
-// The answer over a source that fails at this read: `PAIR` takes 77 of them, one that finds the end included.
+// The answer over a source that fails at this read: `PAIR` takes 77 of them, one that finds the end
+// included.
 fn is_cut_off(answered: &Answered, read: u64) -> bool {
     let (code, held) = if read <= 77 {
         (5, b"read fault\n".as_slice())

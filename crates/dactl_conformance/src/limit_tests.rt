@@ -108,8 +108,8 @@ fn names(alloc: Global, times: usize) -> Result<String, AllocError> {
     Ok(text)
 }
 
-// So many named patterns, each the name of the one before, and a pattern that has the last of them twice. The
-// first stands for 31 nodes.
+// So many named patterns, each the name of the one before, and a pattern that has the last of them
+// twice. The first stands for 31 nodes.
 fn aliases(alloc: Global, times: usize) -> Result<String, AllocError> {
     let mut text = String::from_str(
         alloc,

@@ -69,7 +69,8 @@ fn runs_go_step_by_step(rt: HostRuntime) -> Result<(), AllocError> {
             KEPT_FLAG,
             "normal 4\n1 w1 fire 1 6\n2 w1 note 2\n3 w1 fire 0 5\n4 w1 note 3\n@1 B\n",
         ),
-        // groups: the later rule of a group is free where the earlier one does not match, and a later group waits for the earlier ones
+        // groups: the later rule of a group is free where the earlier one does not match, and a
+        // later group waits for the earlier ones
         (CHOICES, "normal 2\n1 w1 fire 0 6\n2 w1 note 2\n@1 B\n"),
         (
             "MODULE M; SYMBOL REWRITABLE F; SYMBOL CREATABLE A, B, Nil; RULE F[ANY] => *A; F[Nil] => *B; INITIAL => *F[Nil]; ENDMODULE M;",

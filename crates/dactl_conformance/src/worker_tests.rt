@@ -234,7 +234,8 @@ fn workers_have_threads_of_their_own(rt: HostRuntime) -> Result<(), AllocError> 
     Ok(())
 }
 
-// A call whose contractum is a tree of four levels, of 1, 16, 256 and 4,096 active nodes that no rule matches.
+// A call whose contractum is a tree of four levels, of 1, 16, 256 and 4,096 active nodes that no
+// rule matches.
 fn bush(alloc: Global) -> Result<String, AllocError> {
     let twig = repeated(alloc, "*T[", "*T ", 16, "] ")?;
     let branch = repeated(alloc, "*T[", twig.as_str(), 16, "] ")?;
@@ -275,7 +276,8 @@ fn called_on_a_bush<R: Threads + Wait + Sync>(
     called_over(rt, alloc, words, source, sink)
 }
 
-// Nodes that a board with room for 4,096 hands back are found as active ones. The board with deques has room for all.
+// Nodes that a board with room for 4,096 hands back are found as active ones. The board with deques
+// has room for all.
 #[test]
 fn a_full_board_hands_nodes_back(rt: HostRuntime) -> Result<(), AllocError> {
     for (words, refused) in [("--workers|1", 273), ("--workers|1|--steal", 0)] {

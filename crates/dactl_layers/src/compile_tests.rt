@@ -29,7 +29,8 @@ fn compiled(alloc: Global, text: &[u8]) -> Result<Program, TextFault> {
     compile(alloc, text)
 }
 
-/// Two modules. The second sees the public name of a cell and of a pattern, and no other of the first.
+/// Two modules. The second sees the public name of a cell and of a pattern, and no other of the
+/// first.
 const TWO: &[u8] =
     b"MODULE A; SYMBOL OVERWRITABLE PUBLIC CREATABLE Cell; SYMBOL CREATABLE Own; PATTERN PUBLIC P = ANY; ENDMODULE A; MODULE B; IMPORTS A, Arithmetic; SYMBOL REWRITABLE F; INITIAL => F; ENDMODULE B;";
 

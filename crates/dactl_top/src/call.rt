@@ -29,6 +29,30 @@ use std::thread::Threads;
 /// Memory is taken before the workers start: from then on, all that can keep the answer from being
 /// written is the sink. Waits for the workers, and is not promised to return: a thread that is not
 /// run holds up all others.
+///
+/// # Answers
+///
+/// Of a run:
+///
+/// - `Normal`: no node is active any more.
+/// - `Budget`: the journal has as many entries as the budget, and a node is active.
+/// - `Full`: an allowed rule needs more nodes or more arcs than are left.
+///
+/// In place of a run:
+///
+/// - `Checked`: with `--check`, the text is a program.
+/// - `Verified`, `Invalid`, `NoRoom`: with `--verify`, each line of the trace is right after those
+///   before it; a line is not; or a line is right, and its firing does not fit what is left.
+/// - `Small`: the first graph, with `--resume` that of the input, does not fit the room.
+/// - `Usage`: the words are none that the program takes. The source was not read.
+/// - `ReadFault`, `TooLong`: the source failed; or it gave more than 1,048,576 bytes.
+/// - `NoPart`: with `--verify` or `--resume`, no line of the input is the marker that is due.
+/// - `Refused`: the text has a fault, and the first one is told.
+/// - `BadGraph`: with `--resume`, a line of the graph is not as the program prints one.
+/// - `Memory`: memory was wanting, and no run was started.
+///
+/// `WriteFault` stands for each of them where the sink failed: it holds a front of what was due,
+/// and all is kept that would have been.
 pub fn dactl<R: Threads + Wait + Sync, S: Source, K: Sink, G: Gate + Sync>(
     rt: &R,
     alloc: Global,

@@ -14,6 +14,10 @@ use fun_program::compile_equations;
 use std::alloc::Global;
 
 /// The program of a text of modules, or its first fault.
+///
+/// # Errors
+///
+/// `Refused` with the first fault of a text that is no program. `Memory` where memory is wanting.
 pub fn compile(alloc: Global, text: &[u8]) -> Result<Program, TextFault>
     requires { length text.now ≤ 1048576 }
     ensures answer { Compiles text.now result }
@@ -29,6 +33,10 @@ pub fn compile(alloc: Global, text: &[u8]) -> Result<Program, TextFault>
 
 /// The program of a text, or its first fault. With `fun` the text is a list of equations, and else
 /// one of modules.
+///
+/// # Errors
+///
+/// `Refused` with the first fault of a text that is no program. `Memory` where memory is wanting.
 #[tactic(auto, using(crate::proofs::Compiled::by_modules, crate::proofs::Compiled::by_equations))]
 pub fn compile_input(alloc: Global, fun: bool, text: &[u8]) -> Result<Program, TextFault>
     requires { length text.now ≤ 1048576 }

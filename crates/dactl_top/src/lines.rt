@@ -16,6 +16,10 @@ fn push_number(digits: &mut Digits, number: u64, text: &mut Vec<u8>) -> Result<(
 }
 
 /// The line of a first graph that does not fit.
+///
+/// # Errors
+///
+/// `AllocError` where there is not the memory for the line.
 pub fn small_line(alloc: Global, needed: Room) -> Result<Vec<u8>, AllocError>
     ensures { IfOk result (λ line. line.items ≡ spec.small_line needed) }
 {
@@ -39,6 +43,10 @@ fn number_line(alloc: Global, word: &[u8], number: u64) -> Result<Vec<u8>, Alloc
 }
 
 /// The line of a printed graph of which a line is bad.
+///
+/// # Errors
+///
+/// `AllocError` where there is not the memory for the line.
 pub fn bad_graph_line(alloc: Global, bad: u32) -> Result<Vec<u8>, AllocError>
     ensures { IfOk result (λ line. line.items ≡ spec.bad_graph_line bad) }
 {
@@ -46,6 +54,10 @@ pub fn bad_graph_line(alloc: Global, bad: u32) -> Result<Vec<u8>, AllocError>
 }
 
 /// The line of what the check of a trace found, after so many entries.
+///
+/// # Errors
+///
+/// `AllocError` where there is not the memory for the line.
 pub fn verdict_line(alloc: Global, verdict: Verdict, entries: u64) -> Result<Vec<u8>, AllocError>
     ensures { IfOk result (λ line. line.items ≡ spec.verdict_line verdict entries) }
 {
@@ -90,6 +102,10 @@ fn kind_name(kind: Kind) -> &'static [u8]
 }
 
 /// The line of a text that is refused.
+///
+/// # Errors
+///
+/// `AllocError` where there is not the memory for the line.
 pub fn refused_line(alloc: Global, refusal: Refusal) -> Result<Vec<u8>, AllocError>
     ensures { IfOk result (λ line. line.items ≡ spec.refused_line refusal) }
 {

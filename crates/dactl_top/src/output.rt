@@ -35,6 +35,11 @@ fn show_trace_if<K: Sink>(
 
 /// Writes how a run ended, its journal where a trace is asked for, and its last graph below the
 /// root. Takes no memory.
+///
+/// # Errors
+///
+/// `Failed` where the sink fails. It may have taken a front of the output, which is not written
+/// further.
 pub fn write_run<K: Sink>(
     run: &EndedRun,
     trace: bool,

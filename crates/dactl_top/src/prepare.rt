@@ -34,6 +34,11 @@ fn limits_of(settings: Settings) -> Limits
 }
 
 /// Takes all the memory of a run.
+///
+/// # Errors
+///
+/// `Small` where the first graph does not fit, with what it needs; the program is handed back.
+/// `Memory` where there was not the memory for the run or for the numbering; nothing is left then.
 pub fn prepare(alloc: Global, settings: Settings, program: Program) -> Result<Prepared, Unprepared>
     requires limits { IsWithinLimits settings }
     requires valid { IsValid program }
