@@ -13,7 +13,7 @@ use std::sync::Wait;
 use std::thread::Threads;
 
 /// The words of a command line: the program's name, and those that `words` has with bars between.
-pub fn words_of(alloc: Global, words: &str) -> Result<Vec<String>, AllocError> {
+pub(crate) fn words_of(alloc: Global, words: &str) -> Result<Vec<String>, AllocError> {
     let mut given = vec![in alloc; String::from_str(alloc, "dactl")?]?;
     for word in words.split('|') {
         if !word.is_empty() {
@@ -24,7 +24,7 @@ pub fn words_of(alloc: Global, words: &str) -> Result<Vec<String>, AllocError> {
 }
 
 /// `front`, then `part` so many times, then `back`.
-pub fn repeated(
+pub(crate) fn repeated(
     alloc: Global,
     front: &str,
     part: &str,
@@ -41,7 +41,7 @@ pub fn repeated(
 
 /// What a call answered and kept, and what its sink holds.
 #[derive(Drop)]
-pub struct Answered {
+pub(crate) struct Answered {
     pub status: Status,
     pub kept: Kept,
     pub sink: MemorySink,
@@ -49,13 +49,13 @@ pub struct Answered {
 
 impl Answered {
     /// Whether it is this exit code, and the sink holds these bytes.
-    pub fn is(&self, code: u8, output: &[u8]) -> bool {
+    pub(crate) fn is(&self, code: u8, output: &[u8]) -> bool {
         self.status.code() == code && self.sink.held() == output
     }
 }
 
 /// Calls with these words over this source and this sink, with workers that pass this gate.
-pub fn called_by<R: Threads + Wait + Sync, G: Gate + Sync>(
+pub(crate) fn called_by<R: Threads + Wait + Sync, G: Gate + Sync>(
     rt: &R,
     alloc: Global,
     words: &str,
@@ -71,7 +71,7 @@ pub fn called_by<R: Threads + Wait + Sync, G: Gate + Sync>(
 }
 
 /// Calls with these words over this source and this sink.
-pub fn called_over<R: Threads + Wait + Sync>(
+pub(crate) fn called_over<R: Threads + Wait + Sync>(
     rt: &R,
     alloc: Global,
     words: &str,
@@ -83,7 +83,7 @@ pub fn called_over<R: Threads + Wait + Sync>(
 
 /// Calls with these words over a source of the text and a sink with enough room, with workers that
 /// pass this gate.
-pub fn called_at<R: Threads + Wait + Sync, G: Gate + Sync>(
+pub(crate) fn called_at<R: Threads + Wait + Sync, G: Gate + Sync>(
     rt: &R,
     alloc: Global,
     words: &str,
@@ -97,7 +97,7 @@ pub fn called_at<R: Threads + Wait + Sync, G: Gate + Sync>(
 }
 
 /// The same, where nothing holds the workers up.
-pub fn called<R: Threads + Wait + Sync>(
+pub(crate) fn called<R: Threads + Wait + Sync>(
     rt: &R,
     alloc: Global,
     words: &str,
@@ -107,7 +107,7 @@ pub fn called<R: Threads + Wait + Sync>(
 }
 
 /// Calls, and compares the answer with its code and its output.
-pub fn expect<R: Abort + Threads + Wait + Sync>(
+pub(crate) fn expect<R: Abort + Threads + Wait + Sync>(
     rt: &R,
     alloc: Global,
     words: &str,

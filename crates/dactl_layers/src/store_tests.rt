@@ -1,5 +1,5 @@
-//! Runs on whole graphs and on the store, side by side: the graph with its marks, the versions and the woken
-//! nodes after each entry.
+//! Runs on whole graphs and on the store, side by side: the graph with its marks, the versions and
+//! the woken nodes after each entry.
 
 ghost use Rattle.std.specs.Prelude.{◌≡◌, ◌+◌, ◌<◌, ◌≤◌, ◌^◌, IfOk, IfSome, length};
 ghost use Rattle.dactl_model.specs.Graphs.{HasNode, IsSmall, IsWellFormed};
@@ -18,29 +18,36 @@ use dactl_plain::{Choice, choose, start_graph};
 use dactl_store::Store;
 use std::alloc::{AllocError, Global};
 
+// The store, and the nodes that its last step made active.
+#[derive(Drop)]
+struct Stored {
+    store: Store,
+    woken: Woken,
+}
+
 // Takes the step at an active node that the plain executor chooses, on the graph and on the store.
 fn step(
     alloc: Global,
     program: &Program,
     graph: &Graph,
-    store: &mut Store,
+    stored: &mut Stored,
     node: NodeId,
     entry: u32,
-    woken: &mut Woken,
 ) -> Result<Graph, AllocError>
     requires program { IsValid program.now }
     requires formed { IsWellFormed graph.now }
     requires small { length graph.now.nodes < 2 ^ 31 }
-    requires same { store.old.graph ≡ graph.now }
-    requires latest { IsLatest entry store.old }
-    requires room { store.old.room.nodes ≤ woken.old.room }
+    requires same { stored.old.store.graph ≡ graph.now }
+    requires latest { IsLatest entry stored.old.store }
+    requires room { stored.old.store.room.nodes ≤ stored.old.woken.room }
     requires node { HasNode graph.now node }
     requires active { IsActive graph.now node }
     ensures formed { IfOk result IsWellFormed }
-    ensures same { IfOk result (λ after. store.new.graph ≡ after) }
-    ensures latest { IfOk result (λ _. IsLatest (entry + 1) store.new) }
-    ensures room { store.new.room.nodes ≤ woken.new.room }
+    ensures same { IfOk result (λ after. stored.new.store.graph ≡ after) }
+    ensures latest { IfOk result (λ _. IsLatest (entry + 1) stored.new.store) }
+    ensures room { stored.new.store.room.nodes ≤ stored.new.woken.room }
 {
+    let Stored { store, woken } = stored;
     match choose(alloc, program, graph, node)? {
         Choice::Resting => unreachable!(),
         Choice::Fire { rule, bindings } => {
@@ -112,7 +119,8 @@ fn is_content_alike(one: &Node, other: &Node) -> bool {
     true
 }
 
-// The versions after an entry: that of the entry for new nodes and for those whose label or targets changed.
+// The versions after an entry: that of the entry for new nodes and for those whose label or targets
+// changed.
 fn renew(
     versions: &mut Vec<u32>,
     before: &Graph,
@@ -143,8 +151,8 @@ fn has_versions(store: &Store, versions: &[u32]) -> bool {
     true
 }
 
-// The nodes that a step at a node made active: those that are active and were not, and the node itself where it is
-// active.
+// The nodes that a step at a node made active: those that are active and were not, and the node
+// itself where it is active.
 fn made_active(
     alloc: Global,
     before: &Graph,
@@ -194,11 +202,12 @@ fn entries_alike(alloc: Global, program: &Program) -> Result<Option<u32>, AllocE
         nodes: NODES,
         arcs: 4 * NODES,
     };
-    let Ok(mut store) = Store::begin(alloc, &program.start, room) else {
+    let Ok(store) = Store::begin(alloc, &program.start, room) else {
         return Ok(None);
     };
     let mut graph = start_graph(alloc, program)?;
-    let mut woken = Woken::with_room(alloc, NODES)?;
+    let woken = Woken::with_room(alloc, NODES)?;
+    let mut stored = Stored { store, woken };
     let mut versions = vec![in alloc; 0u32; graph.nodes.len()]?;
     for done in 0..40 {
         let entry = done + 1;
@@ -208,13 +217,14 @@ fn entries_alike(alloc: Global, program: &Program) -> Result<Option<u32>, AllocE
         let Some(node) = first_active(&graph) else {
             return Ok(Some(done));
         };
-        let after = step(alloc, program, &graph, &mut store, node, entry, &mut woken)?;
-        if after.nodes.len() > NODES as usize || !is_alike(&store, &after) {
+        let after = step(alloc, program, &graph, &mut stored, node, entry)?;
+        if after.nodes.len() > NODES as usize || !is_alike(&stored.store, &after) {
             return Ok(None);
         }
         renew(&mut versions, &graph, &after, entry)?;
         let made = made_active(alloc, &graph, &after, node)?;
-        if !has_versions(&store, versions.as_slice()) || made.as_slice() != woken.list() {
+        let (store, woken) = (&stored.store, &stored.woken);
+        if !has_versions(store, versions.as_slice()) || made.as_slice() != woken.list() {
             return Ok(None);
         }
         graph = after;
