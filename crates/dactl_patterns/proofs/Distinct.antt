@@ -1,15 +1,15 @@
 -- The names of a list each once, and a set of them, one after the other.
-use Rattle.std.proofs.Common.{◌≡◌, ℕ, ◌+◌, ◌<◌, Bool, true, false, cond, List, [], ◌∷◌, ◌++◌, length, take, get_or, refl, sym, ap, ◌∙◌}
+use Rattle.std.proofs.Common.{◌≡◌, ℕ, ◌+◌, ◌<◌, Bool, true, false, cond, List, [], ◌∷◌, ◌++◌, length, take, drop, get_or, refl, sym, ap, ◌∙◌}
 use Rattle.std.specs.Prelude.{not, ◌||◌, if◌then◌else◌, filter}
 use Rattle.std.specs.Borrow.{Bor}
 use Rattle.std.specs.BTreeSet.{BTreeSet, Updates}
 use Rattle.std.specs.Cmp.Lexicographic.{slice_cmp}
 use Rattle.std.specs.Ordering.{nat_cmp}
 use Rattle.std.specs.Str.{bytes_eq}
-use Rattle.std.proofs.lemmas.List.{append-nil}
+use Rattle.std.proofs.lemmas.List.{append-nil, at_drop_more}
 use Rattle.std.proofs.lemmas.List.Elements.{filter-append}
 use Rattle.std.proofs.lemmas.Map.Text.{is_eq-slice_cmp}
-use Rattle.dactl_meaning.specs.Expansion.{is_among, each_once}
+use Rattle.dactl_meaning.specs.Expansion.{is_among, each_once, number_in}
 use Rattle.dactl_symbols.proofs.Walks.{mapped-more}
 use Rattle.dactl_patterns.specs.declared.occurrences.Occurrence.{Occurrence}
 use Rattle.dactl_patterns.specs.Naming.{has_word, with_word, names_in}
@@ -76,3 +76,10 @@ module _ (occurrences : List Occurrence) (i : ℕ) (x : Occurrence) (had : List 
       turned a b true false e = refl
       turned a b false true e = refl
       turned a b false false e = cc
+
+-- ---- the number of a name, one other name after the other
+
+pub number_step : (names : List (List ℕ)) (w : List ℕ) (i : ℕ) (x : List ℕ) (b : Bool) → i < length names → x ≡ get_or names i x → b ≡ bytes_eq x w → number_in names w ≡ number_in (drop i names) w + i → number_in names w ≡ (if b then 0 else number_in (drop (i + 1) names) w + 1) + i
+number_step names w i x b below is test so =
+    so ∙ ap (λ n. n + i) (at_drop_more (λ (l : List (List ℕ)). number_in l w) names i x below)
+    ∙ (λ j. (if (ap (λ (y : List ℕ). bytes_eq y w) (sym is) ∙ sym test) j then 0 else number_in (drop (i + 1) names) w + 1) + i)

@@ -8,6 +8,9 @@ use sqlite_items::{Boxed, Items};
 use std::alloc::Global;
 
 /// A pattern equal to this one.
+///
+/// # Errors
+/// `AllocError` for want of memory.
 #[cycle(copying)]
 pub fn copied(alloc: Global, pattern: &Pat) -> Result<Pat, Memory>
     ensures { IfOk result (λ p. p ≡ pattern.now) }

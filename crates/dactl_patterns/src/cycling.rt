@@ -63,6 +63,9 @@ fn is_behind(declared: Declared, fault: Option<Refusal>) -> bool
 }
 
 /// The fault of the first of the named patterns that reaches itself.
+///
+/// # Errors
+/// `AllocError` for want of memory.
 pub fn first_cycle(
     web: &Web,
     levels: &Levels,

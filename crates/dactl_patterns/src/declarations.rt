@@ -40,6 +40,9 @@ fn declared_in(found: &mut Vec<Declared>, owner: usize, items: &[Item]) -> Resul
 }
 
 /// The named patterns of the text, in text order.
+///
+/// # Errors
+/// `AllocError` for want of memory.
 pub fn declarations(alloc: Global, text: &Text) -> Result<Vec<Declared>, Memory>
     ensures { IfOk result (λ found. found.items ≡ all_declared text.now) }
 {

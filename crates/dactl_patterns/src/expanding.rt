@@ -125,8 +125,11 @@ impl Expander<'_> {
         }
     }
 
-    /// The expansion of the pattern, if it has at most so many nodes. A named pattern that isn't
-    /// known is want of memory.
+    /// The expansion of the pattern, if it has at most so many nodes.
+    ///
+    /// # Errors
+    /// `AllocError` for want of memory, or where the pattern uses a named pattern that isn't in the
+    /// table.
     #[cycle(expanding)]
     pub fn expand(&self, tree: &PatternTree, most: usize) -> Result<Option<Small>, Memory>
         requires ready { spec.IsReady self.now }

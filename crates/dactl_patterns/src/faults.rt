@@ -128,6 +128,9 @@ fn first_of(faults: &[Refusal]) -> Option<Refusal>
 
 /// The first fault of a pattern, by what stands in it. `large` says that the whole is too wide, and
 /// `place` is where that is told.
+///
+/// # Errors
+/// `AllocError` for want of memory.
 pub fn first_fault(
     alloc: Global,
     found: &Found,

@@ -26,8 +26,11 @@ fn at_name(patterns: &NamedPatterns, owner: usize, name: &Name) -> Result<Option
     }
 }
 
-/// The symbol at the head of a pattern of the module, also where it is that of a named pattern. One
-/// that isn't known is want of memory.
+/// The symbol at the head of a pattern of the module, also where it is that of a named pattern.
+///
+/// # Errors
+/// `AllocError` where the head is that of a named pattern that isn't in the table; it asks for no
+/// memory.
 pub fn head_symbol(
     patterns: &NamedPatterns,
     owner: usize,

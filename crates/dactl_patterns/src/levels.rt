@@ -38,6 +38,9 @@ fn are_below(levels: &Levels, names: &[Pattern], most: usize) -> bool
 
 /// Whether the named pattern names none of its own level, and so is in no cycle. For one of level 0
 /// it answers false.
+///
+/// # Errors
+/// `AllocError` for want of memory.
 pub fn is_free(web: &Web, levels: &Levels, pattern: Pattern) -> Result<bool, Memory>
     requires { IsDescending web.now.text.now (level_in levels.now) }
     ensures { IfOk result (λ free. free ≡ true → ¬ ReachesItself web.now.text.now pattern) }
@@ -191,6 +194,9 @@ fn numbered(web: &Web, patterns: &[Declared]) -> Result<Levels, Memory> {
 
 /// Levels of the named patterns. They are looked through once more: were one to name another of a
 /// higher level, then all would be 0.
+///
+/// # Errors
+/// `AllocError` for want of memory.
 pub fn levels(web: &Web, patterns: &[Declared]) -> Result<Levels, Memory>
     requires { patterns.now ≡ all_declared web.now.text.now }
     ensures { IfOk result (λ levels. IsDescending web.now.text.now (level_in levels)) }

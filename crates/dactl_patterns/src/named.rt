@@ -118,8 +118,13 @@ fn ordered(alloc: Global, text: &Text, scopes: &Scopes) -> Result<Vec<Declared>,
     Ok(order)
 }
 
-/// Looks through the named patterns of a text, and refuses it for the one whose name stands first
-/// among those that reach themselves.
+/// Looks through the named patterns of a text, each after those that it names: the table by which
+/// patterns are examined, which is made once for a text.
+///
+/// # Errors
+/// `Refused` with a `PatternCycle` at the name that stands first among those of named patterns that
+/// reach themselves; `Memory` for want of memory, or where one named pattern comes before another
+/// that it names. The text and its scopes are only read.
 pub fn named_patterns<'a>(
     alloc: Global,
     text: &'a Text,
@@ -135,8 +140,11 @@ pub fn named_patterns<'a>(
     Ok(entered(alloc, text, scopes, order.as_slice())?)
 }
 
-/// Looks for named patterns that reach themselves through named patterns, and refuses the text for
-/// the one of them whose name stands first.
+/// Looks for named patterns that reach themselves through named patterns.
+///
+/// # Errors
+/// `Refused` with a `PatternCycle` at the name of the one of them whose name stands first; `Memory`
+/// for want of memory.
 pub fn cycles(alloc: Global, text: &Text, scopes: &Scopes) -> Result<(), TextFault>
     requires { IsScopesOf text.now scopes.now }
     ensures { TellsFaults (CycleFault text.now) result }

@@ -129,7 +129,10 @@ fn put_links<'a>(found: &mut Found<'a>, rest: &'a [(Sign, PatternTree)]) -> Resu
     Ok(())
 }
 
-/// What stands in the pattern.
+/// What stands in the pattern, which itself stands in no choice.
+///
+/// # Errors
+/// `AllocError` for want of memory.
 pub fn found_in<'a>(alloc: Global, tree: &'a PatternTree) -> Result<Found<'a>, AllocError>
     ensures { IfOk result (λ found. HasFound found tree.now) }
 {

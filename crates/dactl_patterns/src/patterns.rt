@@ -86,8 +86,12 @@ fn expansion(
 /// Looks through a pattern of the module of that number. Its first fault is that by its place, and
 /// at one place by the order of the kinds. The kinds are `BinderInChoice`, `NamedTwice` and
 /// `TooWide`. `named` says that the pattern is that of a named pattern, in which no variable may
-/// stand. A `TooWide` of the whole pattern is told at `place`. The faults of the named patterns that
-/// it uses are not looked for.
+/// stand. A `TooWide` of the whole pattern is told at `place`. The faults of the named patterns it
+/// uses are not looked for.
+///
+/// # Errors
+/// `AllocError` for want of memory, or where the pattern uses a named pattern that isn't in the
+/// table.
 pub fn examine(
     alloc: Global,
     patterns: &NamedPatterns,
@@ -110,8 +114,12 @@ pub fn examine(
     })
 }
 
-/// The expansion of one pattern of a text, or its first fault, as `examine` finds them. A text whose
-/// named patterns reach themselves is want of memory here: `cycles` refuses it.
+/// The expansion of one pattern of a text, as `examine` finds it. All named patterns of the text
+/// are looked through for this one.
+///
+/// # Errors
+/// `Refused` with the pattern's first fault; `Memory` for want of memory, and for a text whose
+/// named patterns reach themselves, which `cycles` refuses.
 pub fn pattern(
     alloc: Global,
     text: &Text,

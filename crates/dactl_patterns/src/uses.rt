@@ -53,6 +53,9 @@ impl Web<'_> {
     }
 
     /// The named patterns that the named pattern names, as often as it does.
+    ///
+    /// # Errors
+    /// `AllocError` for want of memory.
     pub fn named_from(&self, pattern: Pattern) -> Result<Vec<Pattern>, Memory>
         ensures { IfOk result (λ found. found.items ≡ spec.named_from self.now.text.now pattern) }
     {
