@@ -1,7 +1,6 @@
 -- How a drawing grows.
 use Rattle.std.proofs.Common.{◌≡◌, ℕ, zero, suc, ◌+◌, ◌<◌, List, [], ◌∷◌, ◌++◌, length, map, take, get_or, set, refl, sym, ap, ◌∙◌, append_assoc, length-append, arith, Bool, Option}
 use Rattle.std.specs.List.{flat_map}
-use Rattle.std.specs.Borrow.{Bor}
 use Rattle.std.proofs.lemmas.List.{append-nil, take_more, map-append, length-map}
 use Rattle.std.proofs.lemmas.Grind.{flat_map-append}
 use Rattle.std.proofs.lemmas.List.Folds.{flat_map-map}
@@ -20,7 +19,7 @@ use Rattle.dactl_rules.specs.declared.drawing.Sketch.{Sketch}
 use Rattle.dactl_rules.specs.declared.drawing.SketchArc.{SketchArc}
 use Rattle.dactl_rules.specs.declared.drawing.Drawing.{Drawing}
 use Rattle.dactl_meaning.specs.Contractum.{node_draws, arg_draws}
-use Rattle.dactl_rules.specs.Drawing.{args_draw, node_mentioned, arg_mentioned, args_mentioned, arc_of, sketch_of, mention_of, named, with_arcs, made_in, mentioned_in, next_number, Grows, Draws, DrawsArc, DrawsArcs}
+use Rattle.dactl_rules.specs.Drawing.{args_draw, node_mentioned, arg_mentioned, args_mentioned, arc_of, sketch_of, mention_of, with_arcs, made_in, mentioned_in, next_number, Grows, Draws, DrawsArc, DrawsArcs}
 
 -- ---- a new node's arcs
 
@@ -112,22 +111,22 @@ node_grows : (s : contractum.Sketch) (below : List contractum.Sketch) (arcs : Li
 node_grows s below arcs u v w number at e f =
     f ∙ ap (λ (z : List contractum.Sketch). with_arcs z number arcs) (e ∙ append_assoc u (s ∷ []) below) ∙ with_arcs-append u s below number arcs at
 
-pub node_drawn_at : (tree : NodeTree) (symbol : Name) (args : List ArgTree) (name : Option (Bor Name)) (m : Marks) (old opened drawn new : Drawing) (number : ℕ) (arcs : List SketchArc)
+pub node_drawn_at : (tree : NodeTree) (symbol : Name) (args : List ArgTree) (name : Option Name) (m : Marks) (old opened drawn new : Drawing) (number : ℕ) (arcs : List SketchArc)
     → tree ≡ n.Sym symbol args
-    → Grows (record { name = named name; marks = m; core = contractum.Of symbol; arcs = [] } ∷ []) [] old opened
+    → Grows (record { name = name; marks = m; core = contractum.Of symbol; arcs = [] } ∷ []) [] old opened
     → number ≡ next_number old
     → DrawsArcs (args_draw args (next_number opened)) (args_mentioned args) opened drawn arcs
     → made_in new ≡ with_arcs (made_in drawn) number (map arc_of arcs)
     → new.mentions ≡ drawn.mentions
-    → Draws (node_draws tree (next_number old) (named name) m) (node_mentioned tree) old new (target.Made number)
+    → Draws (node_draws tree (next_number old) name m) (node_mentioned tree) old new (target.Made number)
 node_drawn_at tree symbol args name m old opened drawn new number arcs is begins at below made mentions =
     let k = next_number old in
-    let s : contractum.Sketch = record { name = named name; marks = m; core = contractum.Of symbol; arcs = [] } in
+    let s : contractum.Sketch = record { name = name; marks = m; core = contractum.Of symbol; arcs = [] } in
     let next : next_number opened ≡ k + 1 = next_more (s ∷ []) [] old opened begins in
     let ds = args_draw args (k + 1) in
     let made_below : List DrawnArc → List contractum.Sketch = flat_map (λ (d : DrawnArc). d.drawn.made) in
-    let here : node_draws tree k (named name) m ≡ drawn_node k (named name) m (contractum.Of symbol) ds =
-    ap (λ (t : NodeTree). node_draws t k (named name) m) is ∙ sym_draws symbol args k (named name) m in
+    let here : node_draws tree k name m ≡ drawn_node k name m (contractum.Of symbol) ds =
+    ap (λ (t : NodeTree). node_draws t k name m) is ∙ sym_draws symbol args k name m in
     let said : node_mentioned tree ≡ args_mentioned args = ap node_mentioned is ∙ sym_mentions symbol args in
     let stands : map arc_of arcs ≡ map (λ (d : DrawnArc). (d.waits, d.drawn.target)) ds =
     below.stands ∙ ap (λ (z : ℕ). map (λ (d : DrawnArc). (d.waits, d.drawn.target)) (args_draw args z)) next in

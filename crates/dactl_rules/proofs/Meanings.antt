@@ -4,6 +4,8 @@ use Rattle.std.specs.List.{list_any, filter, filter_map}
 use Rattle.std.specs.Str.{bytes_eq}
 use Rattle.std.proofs.lemmas.List.{append-nil, take_more, map-append, length-map, length-take-le}
 use Rattle.std.proofs.lemmas.List.Elements.{filter_map-append}
+use Rattle.dactl_model.specs.declared.graph.Label.TheVariants as labels
+use Rattle.dactl_model.specs.declared.program.FreshNode.{FreshNode}
 use Rattle.dactl_model.specs.declared.program.Mention.TheVariants.{Old, Fresh}
 use Rattle.dactl_model.specs.declared.program.Move.{Move}
 use Rattle.dactl_meaning.specs.declared.tree.Name.{Name}
@@ -11,9 +13,14 @@ use Rattle.dactl_meaning.specs.declared.tree.TermTree.{TermTree}
 use Rattle.dactl_meaning.specs.declared.tree.Part.{Part}
 use Rattle.dactl_meaning.specs.Expansion.{is_among, number_in}
 use Rattle.dactl_meaning.specs.Contractum as contractum
+use Rattle.dactl_meaning.specs.Sight.{Seen, SeenSymbol, SeenPattern}
+use Rattle.dactl_meaning.specs.Contractum.{Core, Number, Character, Of, symbol_label, label_of, mark_of, fresh_of}
 use Rattle.dactl_meaning.specs.Contractum.{Sketch, Drawn, has_name, number_given, name_denotes, left_of_part, term_of_part, term_draws, terms_draw, made_by, move_of, moves_from, root_move, moves_of, has_star}
 use Rattle.dactl_rules.specs.Numbers.{first_from, variable_number, node_number}
-use Rattle.dactl_rules.specs.Meant.{move_by, moves_by, root_by}
+use Rattle.dactl_rules.specs.declared.drawing.Sketch as code
+use Rattle.dactl_rules.specs.Drawing.{sketch_of}
+use Rattle.dactl_rules.specs.Meant.{move_by, moves_by, root_by, arc_meant, label_with, node_with, nodes_with}
+use Rattle.dactl_rules.specs.Told.{seen_symbol, core_symbol, symbol_at}
 use Rattle.dactl_rules.proofs.Tables.{is_some-first}
 
 -- ---- the first item that passes a test, by a recursion of its own
@@ -170,3 +177,44 @@ pub wake_one : (b : Bool) (n : ℕ) (m : contractum.MentionTree) (ms : List cont
     → n ≡ number_in variables m.name.text → cond b (n ∷ rest) rest ≡ map (λ (x : contractum.MentionTree). number_in variables x.name.text) (cond b (m ∷ filter (λ m. has_star m.marks && is_among variables m.name.text) ms) (filter (λ m. has_star m.marks && is_among variables m.name.text) ms))
 wake_one true n m ms variables rest e f = ap (λ (z : ℕ). z ∷ rest) f ∙ ap (λ (z : List ℕ). number_in variables m.name.text ∷ z) e
 wake_one false n m ms variables rest e f = e
+
+-- ---- new nodes
+
+symbol_is : (o : Option Seen) → labels.Symbol (seen_symbol o) ≡ symbol_label o
+symbol_is None = refl
+symbol_is (Some (SeenSymbol id class)) = refl
+symbol_is (Some (SeenPattern m i)) = refl
+
+label_is : (look : List ℕ → Option Seen) (c : Core) → label_with c (core_symbol look c) ≡ label_of look c
+label_is look (Number value) = refl
+label_is look (Character value) = refl
+label_is look (Of name) = symbol_is (look name.text)
+
+-- new nodes whose symbols are looked up are those that are meant
+pub nodes_told : (look : List ℕ → Option Seen) (variables : List (List ℕ)) (made sketches : List Sketch) → nodes_with variables made sketches (map (symbol_at look) sketches) ≡ map (fresh_of look variables made) sketches
+nodes_told look variables made [] = refl
+nodes_told look variables made (s ∷ sketches) = λ j. record { label = label_is look s.core j; arcs = map (arc_meant variables made) s.arcs; mark = mark_of s.marks } ∷ nodes_told look variables made sketches j
+
+nodes-push : (variables : List (List ℕ)) (made sketches : List Sketch) (s : Sketch) (symbols : List ℕ) (n : ℕ) → length sketches ≡ length symbols
+    → nodes_with variables made (sketches ++ s ∷ []) (symbols ++ n ∷ []) ≡ nodes_with variables made sketches symbols ++ node_with variables made s n ∷ []
+nodes-push variables made [] s [] n e = refl
+nodes-push variables made [] s (m ∷ symbols) n e = absurd (omega arith)
+nodes-push variables made (x ∷ sketches) s [] n e = absurd (omega arith)
+nodes-push variables made (x ∷ sketches) s (m ∷ symbols) n e = ap (λ (z : List FreshNode). node_with variables made x m ∷ z) (nodes-push variables made sketches s symbols n (omega arith))
+
+-- one new node more
+pub nodes_more : {X : Type 0} (variables : List (List ℕ)) (made : List Sketch) (f : X → Sketch) (xs : List X) (symbols : List ℕ) (i : ℕ) (x : X) (now next : List FreshNode) → i < length xs → length symbols ≡ length xs → x ≡ get_or xs i x
+    → now ≡ nodes_with variables made (map f (take i xs)) (take i symbols) → next ≡ now ++ node_with variables made (f x) (get_or symbols i 0) ∷ []
+    → next ≡ nodes_with variables made (map f (take (i + 1) xs)) (take (i + 1) symbols)
+nodes_more variables made f xs symbols i x now next lt same at so_far step =
+    let lt_s : i < length symbols = omega arith in
+    let n = get_or symbols i 0 in
+    let more_x = ap (map f) (take_more xs i x lt ∙ ap (λ (z : _). take i xs ++ z ∷ []) (sym at)) ∙ map-append f (take i xs) (x ∷ []) in
+    let lengths : length (map f (take i xs)) ≡ length (take i symbols) = omega (arith, length-take-le i xs (omega arith), length-take-le i symbols (omega arith), length-map (take i xs) f) in
+    step ∙ ap (λ (z : List FreshNode). z ++ node_with variables made (f x) n ∷ []) so_far
+    ∙ sym (nodes-push variables made (map f (take i xs)) (f x) (take i symbols) n lengths)
+    ∙ (λ j. nodes_with variables made (sym more_x j) (sym (take_more symbols i 0 lt_s) j))
+
+-- each new node has a symbol's number
+pub symbols_many : (look : List ℕ → Option Seen) (made : List code.Sketch) (symbols : List ℕ) → symbols ≡ map (symbol_at look) (map sketch_of made) → length symbols ≡ length made
+symbols_many look made symbols is = ap length is ∙ length-map (map sketch_of made) (symbol_at look) ∙ length-map made sketch_of

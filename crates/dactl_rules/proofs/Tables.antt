@@ -11,7 +11,7 @@ use Rattle.dactl_meaning.specs.declared.tree.Name.{Name}
 use Rattle.dactl_meaning.specs.Expansion.{is_among}
 use Rattle.dactl_meaning.specs.Contractum.{has_name, name_list}
 use Rattle.dactl_rules.specs.declared.drawing.Sketch.{Sketch}
-use Rattle.dactl_rules.specs.Drawing.{sketch_of, named}
+use Rattle.dactl_rules.specs.Drawing.{sketch_of}
 
 -- ---- the first item that passes a test
 
@@ -61,7 +61,7 @@ node_more xs i x w lt is =
     first_map (λ s. has_name s w) sketch_of 0 (take (i + 1) xs) ∙ first_more (λ (s : Sketch). has_name (sketch_of s) w) xs i x lt is
     ∙ ap (λ (o : Option ℕ). option_or o (if has_name (sketch_of x) w then Some i else None)) (sym (first_map (λ s. has_name s w) sketch_of 0 (take i xs)))
 
-pub given_more : (xs : List Sketch) (i : ℕ) (x : Sketch) (name : Name) (table next : NameMap ℕ) → i < length xs → x ≡ get_or xs i x → named x.name ≡ Some name → Notes name.text i table next
+pub given_more : (xs : List Sketch) (i : ℕ) (x : Sketch) (name : Name) (table next : NameMap ℕ) → i < length xs → x ≡ get_or xs i x → x.term.now.name ≡ Some name → Notes name.text i table next
     → ((w : List ℕ) → found table w ≡ node_number (map sketch_of (take i xs)) w) → (w : List ℕ) → found next w ≡ node_number (map sketch_of (take (i + 1) xs)) w
 given_more xs i x name table next lt is called noted so_far w =
     let test : has_name (sketch_of x) w ≡ bytes_eq name.text w = ap (λ (o : Option Name). is_among (map (λ n. n.text) (name_list o)) w) called ∙ or_false (bytes_eq name.text w) in
@@ -72,7 +72,7 @@ option_or-None : (a : Option ℕ) → option_or a None ≡ a
 option_or-None None = refl
 option_or-None (Some n) = refl
 
-pub unnamed_more : (xs : List Sketch) (i : ℕ) (x : Sketch) (table : NameMap ℕ) → i < length xs → x ≡ get_or xs i x → named x.name ≡ None
+pub unnamed_more : (xs : List Sketch) (i : ℕ) (x : Sketch) (table : NameMap ℕ) → i < length xs → x ≡ get_or xs i x → x.term.now.name ≡ None
     → ((w : List ℕ) → found table w ≡ node_number (map sketch_of (take i xs)) w) → (w : List ℕ) → found table w ≡ node_number (map sketch_of (take (i + 1) xs)) w
 unnamed_more xs i x table lt is called so_far w =
     let test : has_name (sketch_of x) w ≡ false = ap (λ (o : Option Name). is_among (map (λ n. n.text) (name_list o)) w) called in

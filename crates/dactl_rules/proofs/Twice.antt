@@ -13,7 +13,7 @@ use Rattle.dactl_meaning.specs.Contractum as contractum
 use Rattle.dactl_meaning.specs.Contractum.{name_list, given_names}
 use Rattle.dactl_meaning.specs.RuleFaults.{each_at, again, place_of}
 use Rattle.dactl_rules.specs.declared.drawing.Sketch.{Sketch}
-use Rattle.dactl_rules.specs.Drawing.{sketch_of, named}
+use Rattle.dactl_rules.specs.Drawing.{sketch_of}
 use Rattle.dactl_names.specs.declared.map.NameMap.{NameMap}
 use Rattle.dactl_names.specs.Found.{found, Notes}
 use Rattle.dactl_rules.specs.Numbers.{variable_number}
@@ -125,9 +125,9 @@ twice_more kind variables names table table_next start faults next n known h not
 
 -- the names that sketches have, one sketch more
 pub names_more : (xs : List Sketch) (i : ℕ) (x : Sketch) → i < length xs → x ≡ get_or xs i x
-    → given_names (map sketch_of (take (i + 1) xs)) ≡ given_names (map sketch_of (take i xs)) ++ name_list (named x.name)
+    → given_names (map sketch_of (take (i + 1) xs)) ≡ given_names (map sketch_of (take i xs)) ++ name_list x.term.now.name
 names_more xs i x lt is =
     ap (λ (z : List Sketch). given_names (map sketch_of z)) (take_more xs i x lt ∙ ap (λ (z : Sketch). take i xs ++ z ∷ []) (sym is))
     ∙ ap given_names (map-append sketch_of (take i xs) (x ∷ []))
     ∙ flat_map-append (λ (s : contractum.Sketch). name_list s.name) (map sketch_of (take i xs)) (sketch_of x ∷ [])
-    ∙ ap (λ (z : List Name). given_names (map sketch_of (take i xs)) ++ z) (append-nil (name_list (named x.name)))
+    ∙ ap (λ (z : List Name). given_names (map sketch_of (take i xs)) ++ z) (append-nil (name_list x.term.now.name))

@@ -10,6 +10,7 @@ use Rattle.dactl_base.specs.declared.refusal.Refusal.{Refusal}
 use Rattle.dactl_base.specs.declared.refusal.TextFault.{TextFault}
 use Rattle.dactl_base.specs.declared.refusal.TextFault.TheVariants as fault
 use Rattle.dactl_model.specs.declared.program.Class.TheVariants as classes
+use Rattle.dactl_model.specs.declared.program.FreshNode.{FreshNode}
 use Rattle.dactl_model.specs.declared.program.Pat.{Pat}
 use Rattle.dactl_model.specs.declared.program.Body.TheVariants.{Written}
 use Rattle.dactl_model.specs.Binders.{head}
@@ -32,10 +33,10 @@ use Rattle.dactl_rules.specs.declared.reading.RuleParts.{RuleParts}
 use Rattle.dactl_rules.specs.Drawing.{made_in, mentioned_in}
 use Rattle.dactl_rules.specs.Lefts.{words, left_unbound, left_fixed, is_fixed}
 use Rattle.dactl_rules.specs.Reading.{IsRead}
-use Rattle.dactl_rules.specs.Rules.{early_faults, fixed_faults, meant_of, IsAnswerFor}
-use Rattle.dactl_rules.specs.Meant.{wake_of}
+use Rattle.dactl_rules.specs.Rules.{early_faults, fixed_faults, symbols_of, meant_of, IsAnswerFor}
+use Rattle.dactl_rules.specs.Meant.{nodes_with, wake_of}
 use Rattle.dactl_rules.specs.Told.{fault_at, suspensions_in, drawn_faults}
-use Rattle.dactl_rules.proofs.Meanings.{wake_one}
+use Rattle.dactl_rules.proofs.Meanings.{wake_one, nodes_told}
 use Rattle.dactl_validity.proofs.ValidTests.{not_above as not_wider}
 use Rattle.dactl_rules.proofs.LeftSides.{left_unbound_told, left_fixed_told}
 use Rattle.dactl_validity.proofs.ValidLists.{In, all_in, flat_in, map_in, get_in}
@@ -248,9 +249,18 @@ module _ (text : Text) (s : Sights) (m group : ℕ) (tree : RuleTree) (r : RuleP
       (asked_by (suspensions_in (read.suspendable j) (read.drawn.mentions j))))
       ∙ ap (λ (w : List ℕ). Written (fresh_nodes (sees text m) (variables_of tree.pattern) (map term_of_part tree.parts)) (moves_of (variables_of tree.pattern) tree.redirects tree.parts) w (suspend_of (suspendable tree) (map term_of_part tree.parts))) (wakes_are (variables_of tree.pattern) (mentions_of (map term_of_part tree.parts)))
 
+  nodes_are : (symbols : List ℕ) → symbols ≡ symbols_of s m r → nodes_with r.variables (made_in r.contractum.drawing) (made_in r.contractum.drawing) symbols ≡ map (fresh_of (seen_in s m) r.variables (made_in r.contractum.drawing)) (made_in r.contractum.drawing)
+  nodes_are symbols are = ap (nodes_with r.variables (made_in r.contractum.drawing) (made_in r.contractum.drawing)) are ∙ nodes_told (seen_in s m) r.variables (made_in r.contractum.drawing) (made_in r.contractum.drawing)
+
   -- what is meant by what is read is what the tree means
-  pub meant_is : meant_of s m group tree r (rule_expansion text m tree.pattern) ≡ rule_of text m group tree
-  meant_is = λ j. record {
+  pub meant_is : (symbols : List ℕ) → symbols ≡ symbols_of s m r → meant_of symbols group tree r (rule_expansion text m tree.pattern) ≡ rule_of text m group tree
+  meant_is symbols are = ap (λ (nodes : List FreshNode). record {
+    symbol = unwrap_or r.head 0;
+    group = group;
+    variables = length r.variables;
+    pattern = rule_expansion text m tree.pattern;
+    body = Written nodes (moves_of r.variables tree.redirects tree.parts) (filter_map (wake_of r.variables) (mentioned_in r.contractum.drawing)) (asked_by (suspensions_in r.suspendable (mentioned_in r.contractum.drawing)));
+  }) (nodes_are symbols are) ∙ λ j. record {
     symbol = unwrap_or (read.head j) 0;
     group = group;
     variables = length (read.variables j);

@@ -1,11 +1,11 @@
 -- What a drawing holds, in the words of the definitions of a contractum.
-use Rattle.std.specs.Prelude.{◌≡◌, ℕ, zero, suc, Bool, List, [], ◌∷◌, ◌++◌, map, length, Option, option_map}
+use Rattle.std.specs.Prelude.{◌≡◌, ℕ, zero, suc, Bool, List, [], ◌∷◌, ◌++◌, map, length, Option}
 use Rattle.std.specs.List.{flat_map}
-use Rattle.std.specs.Borrow.{Bor}
-use Rattle.dactl_meaning.specs.declared.tree.Name.{Name}
 use Rattle.dactl_meaning.specs.declared.tree.Marks.{Marks}
 use Rattle.dactl_meaning.specs.declared.tree.NodeTree.{NodeTree}
 use Rattle.dactl_meaning.specs.declared.tree.ArgTree.{ArgTree}
+use Rattle.dactl_meaning.specs.declared.tree.Name.{Name}
+use Rattle.dactl_meaning.specs.declared.tree.TermTree.{TermTree}
 use Rattle.dactl_meaning.specs.declared.tree.NodeTree.TheFolds.{fold-NodeTree, fold-ArgTree}
 use Rattle.dactl_meaning.specs.Contractum as contractum
 use Rattle.dactl_meaning.specs.Contractum.{DrawnArc, MentionTree, arg_draws, drawn_from, node_mentions, arg_mentions, term_mentions}
@@ -40,19 +40,15 @@ target_of (target.Made k) = contractum.Made k
 target_of (target.Named w) = contractum.Named w.now
 
 abbrev pub core_of : Core → contractum.Core
-core_of (core.Number value) = contractum.Number value
+core_of (core.Number value) = contractum.Number value.now
 core_of (core.Character value) = contractum.Character value
 core_of (core.Of name) = contractum.Of name.now
 
 abbrev pub arc_of : SketchArc → Bool × contractum.Target
 arc_of a = (a.waits, target_of a.target)
 
--- the name behind the reference, if there is one
-abbrev pub named : Option (Bor Name) → Option Name
-named name = option_map (λ n. n.now) name
-
 abbrev pub sketch_of : Sketch → contractum.Sketch
-sketch_of s = record { name = named s.name; marks = s.marks; core = core_of s.core; arcs = map arc_of s.arcs.items }
+sketch_of s = record { name = s.term.now.name; marks = s.term.now.marks; core = core_of s.core; arcs = map arc_of s.arcs.items }
 
 abbrev pub mention_of : Mentioned → MentionTree
 mention_of m = record { name = m.name.now; marks = m.marks }
@@ -69,8 +65,8 @@ abbrev pub next_number : Drawing → ℕ
 next_number d = length d.made.items
 
 -- a new node whose arcs are not drawn yet
-abbrev pub begun : Option (Bor Name) → Marks → Core → contractum.Sketch
-begun name m c = record { name = named name; marks = m; core = core_of c; arcs = [] }
+abbrev pub begun : TermTree → Core → contractum.Sketch
+begun t c = record { name = t.name; marks = t.marks; core = core_of c; arcs = [] }
 
 -- the new nodes, where the one of that number has these arcs
 abbrev pub with_arcs : List contractum.Sketch → ℕ → List (Bool × contractum.Target) → List contractum.Sketch

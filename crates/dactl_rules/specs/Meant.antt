@@ -1,16 +1,35 @@
 -- What a contractum means, part by part.
-use Rattle.std.specs.Prelude.{ℕ, Bool, true, false, ◌&&◌, List, [], ◌∷◌, ◌++◌, Option, Some, None, if◌then◌else◌}
+use Rattle.std.specs.Prelude.{ℕ, Bool, true, false, ◌&&◌, List, [], ◌∷◌, ◌++◌, map, Option, Some, None, if◌then◌else◌}
+use Rattle.dactl_model.specs.declared.graph.Label.{Label}
+use Rattle.dactl_model.specs.declared.graph.Label.TheVariants as labels
 use Rattle.dactl_model.specs.declared.program.FreshArc.{FreshArc}
+use Rattle.dactl_model.specs.declared.program.FreshNode.{FreshNode}
 use Rattle.dactl_model.specs.declared.program.Left.TheVariants.{Root, Variable}
 use Rattle.dactl_model.specs.declared.program.Move.{Move}
 use Rattle.dactl_meaning.specs.declared.tree.Name.{Name}
 use Rattle.dactl_meaning.specs.declared.tree.Part.{Part}
 use Rattle.dactl_meaning.specs.Expansion.{is_among, number_in}
-use Rattle.dactl_meaning.specs.Contractum.{Target, Sketch, MentionTree, denotes, has_star, left_of_part}
+use Rattle.dactl_meaning.specs.Contractum.{Core, Number, Character, Of, Target, Sketch, MentionTree, denotes, mark_of, has_star, left_of_part}
 
 -- an arc of a new node
 abbrev pub arc_meant : List (List ℕ) → List Sketch → Bool × Target → FreshArc
 arc_meant variables made a = record { to = denotes variables made a.1; waits = a.0 }
+
+-- the label of a new node whose symbol has that number
+abbrev pub label_with : Core → ℕ → Label
+label_with (Number value) n = labels.Integer value
+label_with (Character value) n = labels.Character value
+label_with (Of name) n = labels.Symbol n
+
+-- a new node whose symbol has that number
+abbrev pub node_with : List (List ℕ) → List Sketch → Sketch → ℕ → FreshNode
+node_with variables made s n = record { label = label_with s.core n; arcs = map (arc_meant variables made) s.arcs; mark = mark_of s.marks }
+
+-- the new nodes, whose symbols have these numbers
+abbrev pub nodes_with : List (List ℕ) → List Sketch → List Sketch → List ℕ → List FreshNode
+nodes_with variables made [] symbols = []
+nodes_with variables made (s ∷ sketches) [] = []
+nodes_with variables made (s ∷ sketches) (n ∷ symbols) = node_with variables made s n ∷ nodes_with variables made sketches symbols
 
 -- the variable that a mention wakes, if it wakes one
 abbrev pub wake_of : List (List ℕ) → MentionTree → Option ℕ

@@ -14,15 +14,15 @@ use Rattle.dactl_model.specs.declared.program.Rule.{Rule}
 use Rattle.dactl_meaning.specs.declared.tree.Name.{Name}
 use Rattle.dactl_meaning.specs.declared.tree.RuleTree.{RuleTree}
 use Rattle.dactl_meaning.specs.Expansion.{is_among}
-use Rattle.dactl_meaning.specs.Contractum.{fresh_of, moves_of, asked_by}
+use Rattle.dactl_meaning.specs.Contractum.{moves_of, asked_by}
 use Rattle.dactl_meaning.specs.RuleFaults.{each_at, again, place_of, head_is, is_class}
 use Rattle.dactl_symbols.specs.Sights.{Sights}
 use Rattle.dactl_symbols.specs.Scoping.{seen_in, class_in}
 use Rattle.dactl_rules.specs.declared.reading.RuleParts.{RuleParts}
 use Rattle.dactl_rules.specs.Drawing.{made_in, mentioned_in}
 use Rattle.dactl_rules.specs.Lefts.{words, left_unbound, left_fixed}
-use Rattle.dactl_rules.specs.Meant.{wake_of}
-use Rattle.dactl_rules.specs.Told.{fault_at, suspensions_in, drawn_faults}
+use Rattle.dactl_rules.specs.Meant.{nodes_with, wake_of}
+use Rattle.dactl_rules.specs.Told.{fault_at, symbol_at, suspensions_in, drawn_faults}
 
 -- the faults for which the expansion of the pattern is not needed, apart from those of the pattern
 abbrev pub early_faults : Sights → ℕ → RuleTree → RuleParts → List Refusal
@@ -41,9 +41,13 @@ IsAnswerFor least lefts place (fault.Refused r) = (least ≡ Some r) × All (λ 
 abbrev pub fixed_faults : Sights → ℕ → RuleParts → Pat → List Refusal
 fixed_faults s m r pattern = flat_map (left_fixed (λ f. is_class classes.Overwritable (class_in s m f)) r.variables r.roots pattern) (words r.lefts.items)
 
--- what a rule without faults means, by what is read of it and the expansion of its pattern
-abbrev pub meant_of : Sights → ℕ → ℕ → RuleTree → RuleParts → Pat → Rule
-meant_of s m group tree r pattern =
+-- the numbers of the symbols that module m sees under the names of the new nodes
+abbrev pub symbols_of : Sights → ℕ → RuleParts → List ℕ
+symbols_of s m r = map (symbol_at (seen_in s m)) (made_in r.contractum.drawing)
+
+-- what a rule without faults means, by what is read of it, those numbers and the expansion of its pattern
+abbrev pub meant_of : List ℕ → ℕ → RuleTree → RuleParts → Pat → Rule
+meant_of symbols group tree r pattern =
     let made = made_in r.contractum.drawing in
     record {
       symbol = unwrap_or r.head 0;
@@ -51,6 +55,6 @@ meant_of s m group tree r pattern =
       variables = length r.variables;
       pattern = pattern;
       body =
-          Written (map (fresh_of (seen_in s m) r.variables made) made) (moves_of r.variables tree.redirects tree.parts) (filter_map (wake_of r.variables) (mentioned_in r.contractum.drawing))
+          Written (nodes_with r.variables made made symbols) (moves_of r.variables tree.redirects tree.parts) (filter_map (wake_of r.variables) (mentioned_in r.contractum.drawing))
           (asked_by (suspensions_in r.suspendable (mentioned_in r.contractum.drawing)));
     }

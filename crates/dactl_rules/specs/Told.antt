@@ -1,12 +1,12 @@
 -- The faults of a contractum, new node by new node and mention by mention.
-use Rattle.std.specs.Prelude.{ℕ, Bool, false, not, ◌&&◌, List, [], ◌∷◌, ◌++◌, map, length, drop, count_by, Option, if◌then◌else◌, nat_lt}
+use Rattle.std.specs.Prelude.{ℕ, Bool, false, not, ◌&&◌, List, [], ◌∷◌, ◌++◌, map, length, drop, count_by, Option, Some, None, if◌then◌else◌, nat_lt}
 use Rattle.dactl_base.specs.declared.refusal.Kind.{Kind}
 use Rattle.dactl_base.specs.declared.refusal.Kind.TheVariants as kinds
 use Rattle.dactl_base.specs.declared.refusal.Place.{Place}
 use Rattle.dactl_base.specs.declared.refusal.Refusal.{Refusal}
 use Rattle.dactl_meaning.specs.declared.tree.Marks.{Marks}
 use Rattle.dactl_meaning.specs.declared.tree.Marks.TheVariants as marks
-use Rattle.dactl_meaning.specs.Sight.{Seen}
+use Rattle.dactl_meaning.specs.Sight.{Seen, SeenSymbol, SeenPattern}
 use Rattle.dactl_meaning.specs.Contractum.{Core, Number, Character, Of, Sketch, MentionTree, given_names, has_hashes}
 use Rattle.dactl_meaning.specs.Expansion.{is_among}
 use Rattle.dactl_meaning.specs.RuleFaults.{is_pattern, each_at, again, place_of, core_names, mark_on_bound, mark_place, too_many_waits_at}
@@ -31,6 +31,21 @@ abbrev pub names_pattern : (List ℕ → Option Seen) → Core → Bool
 names_pattern look (Number value) = false
 names_pattern look (Character value) = false
 names_pattern look (Of name) = is_pattern (look name.text)
+
+-- the number of the symbol that is seen, if one is
+abbrev pub seen_symbol : Option Seen → ℕ
+seen_symbol None = 0
+seen_symbol (Some (SeenSymbol id class)) = id
+seen_symbol (Some (SeenPattern m i)) = 0
+
+-- the same under the name of a symbol
+abbrev pub core_symbol : (List ℕ → Option Seen) → Core → ℕ
+core_symbol look (Number value) = 0
+core_symbol look (Character value) = 0
+core_symbol look (Of name) = seen_symbol (look name.text)
+
+abbrev pub symbol_at : (List ℕ → Option Seen) → Sketch → ℕ
+symbol_at look s = core_symbol look s.core
 
 abbrev pub creatable_at : (List ℕ → Option Seen) → Sketch → List Refusal
 creatable_at look s = core_fault (names_pattern look s.core) kinds.NotCreatable s.core

@@ -5,7 +5,8 @@ ghost use Rattle.dactl_meaning.specs.Meaning.{rule_of};
 ghost use Rattle.dactl_meaning.specs.RuleFaults.{rule_faults};
 ghost use Rattle.dactl_patterns.specs.Table.{AreNamed};
 ghost use Rattle.dactl_rules.specs.Listing.{placed};
-ghost use Rattle.dactl_rules.specs.RuleLists.{Adds, AddsGroups, HasRules, terms_of, placed_groups, groups_in};
+ghost use Rattle.dactl_rules.specs.RuleLists.{Adds, AddsGroups, HasRules, terms_of, placed_groups};
+ghost use Rattle.dactl_rules.specs.RuleLists.{groups_in};
 
 use crate::listing::Placed;
 use crate::rule::rule;
@@ -34,7 +35,10 @@ impl CompiledRules {
         tree: &RuleTree,
     ) -> Result<(), Memory>
         requires { AreNamed patterns.now }
-        ensures { OnOk result (Adds (rule_faults patterns.now.text.now owner tree.now) (rule_of patterns.now.text.now owner self.old.group tree.now ∷ []) (terms_of tree.now ∷ []) 0 self.old self.new) }
+        ensures { OnOk result
+            (Adds (rule_faults patterns.now.text.now owner tree.now)
+            (rule_of patterns.now.text.now owner self.old.group tree.now ∷ [])
+            (terms_of tree.now ∷ []) 0 self.old self.new) }
     {
         match rule(alloc, patterns, owner, self.group, tree) {
             Ok(rule) => {
@@ -56,7 +60,10 @@ impl CompiledRules {
         rules: &[RuleTree],
     ) -> Result<(), Memory>
         requires { AreNamed patterns.now }
-        ensures { OnOk result (Adds (flat_map (rule_faults patterns.now.text.now owner) rules.now) (map (rule_of patterns.now.text.now owner self.old.group) rules.now) (map terms_of rules.now) 0 self.old self.new) }
+        ensures { OnOk result
+            (Adds (flat_map (rule_faults patterns.now.text.now owner) rules.now)
+            (map (rule_of patterns.now.text.now owner self.old.group) rules.now)
+            (map terms_of rules.now) 0 self.old self.new) }
     {
         for tree in rules {
             self.add_rule(alloc, patterns, owner, tree)?;
@@ -72,7 +79,10 @@ impl CompiledRules {
         group: &Group,
     ) -> Result<(), Memory>
         requires { AreNamed patterns.now }
-        ensures { OnOk result (Adds (flat_map (rule_faults patterns.now.text.now owner) group.now.rules) (map (rule_of patterns.now.text.now owner self.old.group) group.now.rules) (map terms_of group.now.rules) 1 self.old self.new) }
+        ensures { OnOk result
+            (Adds (flat_map (rule_faults patterns.now.text.now owner) group.now.rules)
+            (map (rule_of patterns.now.text.now owner self.old.group) group.now.rules)
+            (map terms_of group.now.rules) 1 self.old self.new) }
     {
         self.add_rules(alloc, patterns, owner, group.rules.as_slice())?;
         self.group = self.group.checked_add(1).ok_or(AllocError)?;
@@ -87,7 +97,8 @@ impl CompiledRules {
         groups: &[Group],
     ) -> Result<(), Memory>
         requires { AreNamed patterns.now }
-        ensures { OnOk result (AddsGroups patterns.now.text.now (placed_groups owner groups.now) self.old self.new) }
+        ensures { OnOk result
+            (AddsGroups patterns.now.text.now (placed_groups owner groups.now) self.old self.new) }
     {
         for group in groups {
             self.add_group(alloc, patterns, owner, group)?;
@@ -102,7 +113,8 @@ impl CompiledRules {
         item: Placed,
     ) -> Result<(), Memory>
         requires { AreNamed patterns.now }
-        ensures { OnOk result (AddsGroups patterns.now.text.now (groups_in (placed item.entry)) self.old self.new) }
+        ensures { OnOk result
+            (AddsGroups patterns.now.text.now (groups_in (placed item.entry)) self.old self.new) }
     {
         match item.item {
             Item::Rules { groups } => {
@@ -113,14 +125,20 @@ impl CompiledRules {
     }
 }
 
-/// The rules of the items, whose first group has the number 5, behind those of the arithmetic.
+/// The rules of the items, whose first group has the number 5, behind those of the arithmetic; and
+/// their first fault, behind which there may be rules missing.
+///
+/// # Errors
+///
+/// Want of memory, and more groups than a `u32` counts.
 pub fn rules(
     alloc: Global,
     patterns: &NamedPatterns,
     items: &[Placed],
 ) -> Result<CompiledRules, Memory>
     requires { AreNamed patterns.now }
-    ensures { IfOk result (HasRules patterns.now.text.now (flat_map groups_in (map placed items.now))) }
+    ensures { IfOk result
+        (HasRules patterns.now.text.now (flat_map groups_in (map placed items.now))) }
 {
     let mut compiled = CompiledRules {
         rules: Vec::new(alloc),

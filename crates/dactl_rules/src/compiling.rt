@@ -4,7 +4,8 @@ ghost use Rattle.std.specs.List.{flat_map};
 ghost use Rattle.dactl_model.specs.Programs.{IsValid};
 ghost use Rattle.dactl_meaning.specs.Declarations.{items as items_in};
 ghost use Rattle.dactl_meaning.specs.Faults.{NoFault, TellsFaults};
-ghost use Rattle.dactl_meaning.specs.Meaning.{CycleFault, RuleFault, arithmetic_rules, named_faults, program_of};
+ghost use Rattle.dactl_meaning.specs.Meaning.{CycleFault, RuleFault, arithmetic_rules};
+ghost use Rattle.dactl_meaning.specs.Meaning.{named_faults, program_of};
 ghost use Rattle.dactl_meaning.specs.RuleFaults.{pattern_faults};
 ghost use Rattle.dactl_meaning.specs.ScopeFaults.{ScopeFault};
 ghost use Rattle.dactl_symbols.specs.Least.{TellsLeast};
@@ -42,7 +43,9 @@ fn pattern_fault(
     tree: &PatternTree,
 ) -> Result<Option<Refusal>, Memory>
     requires { AreNamed patterns.now }
-    ensures { IfOk result (TellsLeast (Contains (pattern_faults patterns.now.text.now owner true place.byte tree.now))) }
+    ensures { IfOk result
+        (TellsLeast
+        (Contains (pattern_faults patterns.now.text.now owner true place.byte tree.now))) }
 {
     let examined = examine(alloc, patterns, owner, true, place, tree)?;
     Ok(examined.fault)
@@ -54,7 +57,8 @@ fn named_fault(
     item: Placed,
 ) -> Result<Option<Refusal>, Memory>
     requires { AreNamed patterns.now }
-    ensures { IfOk result (TellsLeast (Contains (named_faults patterns.now.text.now (placed item.entry)))) }
+    ensures { IfOk result
+        (TellsLeast (Contains (named_faults patterns.now.text.now (placed item.entry)))) }
 {
     match item.item {
         Item::Named {
@@ -73,7 +77,9 @@ fn first_named_fault(
     items: &[Placed],
 ) -> Result<Option<Refusal>, Memory>
     requires { AreNamed patterns.now }
-    ensures { IfOk result (TellsLeast (Contains (flat_map (named_faults patterns.now.text.now) (map placed items.now)))) }
+    ensures { IfOk result
+        (TellsLeast
+        (Contains (flat_map (named_faults patterns.now.text.now) (map placed items.now)))) }
 {
     let mut least = None;
     for item in items {
@@ -106,7 +112,10 @@ fn draft(
     requires patterns { AreNamed patterns.now }
     requires items { map placed items.now ≡ items_in patterns.now.text.now }
     ensures rules { IfOk result (λ d. IsDraft patterns.now.text.now d.0) }
-    ensures start { IfOk result (λ d. d.0.fault ≡ None → d.1 ≡ first_start (seen_in patterns.now.scopes.now) (flat_map initials_in (map placed items.now))) }
+    ensures start { IfOk result
+        (λ d. d.0.fault ≡ None → d.1
+        ≡ first_start (seen_in patterns.now.scopes.now)
+        (flat_map initials_in (map placed items.now))) }
 {
     let named = first_named_fault(alloc, patterns, items)?;
     let ReadInitials { fault, start } = read_initials(alloc, patterns.scopes, items)?;
@@ -124,7 +133,14 @@ fn assemble(
     start: Option<Start>,
     written: Vec<Rule>,
 ) -> Result<Program, Memory>
-    ensures { IfOk result (λ p. p ≡ record { symbols = symbols_in scopes.now; rules = arithmetic_rules ++ written.items; start = start_from start; wide = wide }) }
+    ensures { IfOk result
+        (λ p. p
+        ≡ record {
+          symbols = symbols_in scopes.now;
+          rules = arithmetic_rules ++ written.items;
+          start = start_from start;
+          wide = wide;
+        }) }
 {
     let symbols = scopes.symbols(alloc)?;
     let mut rules = built_in(alloc)?;
@@ -137,10 +153,15 @@ fn assemble(
     })
 }
 
-/// The program of a text whose scopes these are, or its first fault among named patterns that reach
-/// themselves, patterns, rules and first graphs: a cycle before all others, and otherwise by place,
-/// and at one place by the order of the kinds. The program is valid where the names of the text have
-/// no fault. More groups, new nodes or arcs than have numbers of 31 bits are want of memory.
+/// The program of a text whose scopes these are. It is valid where the names of the text have no
+/// fault.
+///
+/// # Errors
+///
+/// `Refused` with the first fault among named patterns that reach themselves, patterns, rules and
+/// first graphs: a cycle before all others, and otherwise by place, and at one place by the order
+/// of the kinds. `Memory` is want of memory, which may hide a fault, and stands for more groups,
+/// new nodes or arcs than have numbers of 31 bits. In both cases nothing is kept.
 pub fn program(alloc: Global, text: &Text, scopes: &Scopes) -> Result<Program, TextFault>
     requires { IsScopesOf text.now scopes.now }
     ensures faults { TellsFaults (λ r. CycleFault text.now r ⊎ RuleFault text.now r) result }

@@ -23,11 +23,12 @@ pub struct Contractum<'a> {
 
 /// The numbers of the new nodes that have names.
 fn given(alloc: Global, made: &[Sketch]) -> Result<NameMap<usize>, Memory>
-    ensures { IfOk result (λ table. (w : List ℕ) → found table w ≡ node_number (map sketch_of made.now) w) }
+    ensures { IfOk result
+        (λ table. (w : List ℕ) → found table w ≡ node_number (map sketch_of made.now) w) }
 {
     let mut numbers = NameMap::new(alloc);
     for (number, sketch) in made.iter().enumerate() {
-        if let Some(name) = sketch.name {
+        if let Some(name) = &sketch.term.name {
             numbers.note(alloc, name.text.as_slice(), number)?;
         }
     }
@@ -55,13 +56,17 @@ fn has_few_arcs(made: &[Sketch]) -> bool
     }
 }
 
-/// Draws the terms of a contractum. More new nodes or arcs than have numbers of 31 bits are want of
-/// memory.
+/// Draws the terms of a contractum, in their order. What a name stands for is not looked for yet.
+///
+/// # Errors
+///
+/// Want of memory, which more new nodes or arcs than have numbers of 31 bits are too.
 pub fn draw<'a>(alloc: Global, terms: &[&'a TermTree]) -> Result<Contractum<'a>, Memory>
     ensures drawn { IfOk result (λ c. AreDrawn (seen terms.now) c.drawing c.targets.items) }
     ensures small { IfOk result (λ c. length c.drawing.made.items < 2 ^ 31) }
     ensures counts { IfOk result (λ c. AreCounted (made_in c.drawing)) }
-    ensures given { IfOk result (λ c. (w : List ℕ) → found c.given w ≡ node_number (made_in c.drawing) w) }
+    ensures given { IfOk result
+        (λ c. (w : List ℕ) → found c.given w ≡ node_number (made_in c.drawing) w) }
 {
     let mut drawing = Drawing {
         made: Vec::with_capacity(alloc, terms.len())?,

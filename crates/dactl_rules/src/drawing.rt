@@ -2,7 +2,11 @@
 ghost use Rattle.std.specs.Prelude.{◌≡◌, ◌<◌, ◌^◌, [], ◌∷◌, IfOk, OnOk, count_by, map};
 ghost use Rattle.dactl_meaning.specs.Contractum.{term_draws, mentions_in};
 ghost use Rattle.dactl_meaning.specs.Contractum.{node_draws, arg_draws};
-ghost use Rattle.dactl_rules.specs.Drawing.{next_number, node_mentioned, arg_mentioned, args_draw, args_mentioned, sketch_of, named, begun, with_arcs, made_in, mentioned_in, arc_of, Grows, Draws, DrawsArc, DrawsArcs};
+ghost use Rattle.dactl_rules.specs.Drawing.{next_number, node_mentioned};
+ghost use Rattle.dactl_rules.specs.Drawing.{arg_mentioned, args_draw, args_mentioned, sketch_of};
+ghost use Rattle.dactl_rules.specs.Drawing.{begun};
+ghost use Rattle.dactl_rules.specs.Drawing.{with_arcs, made_in, mentioned_in, arc_of};
+ghost use Rattle.dactl_rules.specs.Drawing.{Grows, Draws, DrawsArc, DrawsArcs};
 
 use dactl_base::refusal::Memory;
 use dactl_meaning::tree::{ArgTree, Marks, Name, NodeTree, TermTree};
@@ -21,7 +25,7 @@ pub enum Target<'a> {
 /// What a new node is made of: an integer, a character, or a symbol under its name.
 #[derive(Clone, Copy)]
 pub enum Core<'a> {
-    Number(i128),
+    Number(&'a i128),
     Character(u8),
     Of(&'a Name),
 }
@@ -33,11 +37,11 @@ pub struct SketchArc<'a> {
     pub target: Target<'a>,
 }
 
-/// A new node as it is written.
+/// A new node: the term that makes it, with its name and its marks; what it is made of; and its
+/// arcs. A text may have a new node for every third byte, so a sketch is small.
 #[derive(Drop)]
 pub struct Sketch<'a> {
-    pub name: Option<&'a Name>,
-    pub marks: Marks,
+    pub term: &'a TermTree,
     pub core: Core<'a>,
     pub arcs: Vec<SketchArc<'a>>,
 }
@@ -67,14 +71,8 @@ pub struct Drawing<'a> {
 
 impl<'a> Drawing<'a> {
     /// Begins a new node whose arcs are not known yet, and tells its number.
-    fn begin(
-        &mut self,
-        alloc: Global,
-        name: Option<&'a Name>,
-        marks: Marks,
-        core: Core<'a>,
-    ) -> Result<usize, Memory>
-        ensures grows { OnOk result (Grows (begun name.entry marks core.entry ∷ []) [] self.old self.new) }
+    fn begin(&mut self, alloc: Global, term: &'a TermTree, core: Core<'a>) -> Result<usize, Memory>
+        ensures grows { OnOk result (Grows (begun term.now core.entry ∷ []) [] self.old self.new) }
         ensures number { IfOk result (λ n. n ≡ next_number self.old) }
         ensures small { IfOk result (λ n. n < 2 ^ 31) }
     {
@@ -83,8 +81,7 @@ impl<'a> Drawing<'a> {
             return Err(AllocError);
         }
         self.made.push(Sketch {
-            name,
-            marks,
+            term,
             core,
             arcs: Vec::new(alloc),
         })?;
@@ -94,7 +91,8 @@ impl<'a> Drawing<'a> {
     /// Gives a new node its arcs.
     fn finish(&mut self, number: usize, arcs: Vec<SketchArc<'a>>)
         requires { number < next_number self.old }
-        ensures made { made_in self.new ≡ with_arcs (made_in self.old) number (map arc_of arcs.entry.items) }
+        ensures made { made_in self.new
+            ≡ with_arcs (made_in self.old) number (map arc_of arcs.entry.items) }
         ensures mentions { self.new.mentions ≡ self.old.mentions }
     {
         self.made[number].arcs = arcs;
@@ -106,22 +104,23 @@ fn node<'a>(
     alloc: Global,
     drawing: &mut Drawing<'a>,
     tree: &'a NodeTree,
-    name: Option<&'a Name>,
-    marks: Marks,
+    whole: &'a TermTree,
 ) -> Result<Target<'a>, Memory>
-    ensures { IfOk result (Draws (node_draws tree.now (next_number drawing.old) (named name.entry) marks) (node_mentioned tree.now) drawing.old drawing.new) }
+    ensures { IfOk result
+        (Draws (node_draws tree.now (next_number drawing.old) whole.now.name whole.now.marks)
+        (node_mentioned tree.now) drawing.old drawing.new) }
 {
     match tree {
         NodeTree::Integer { value, .. } => {
-            let number = drawing.begin(alloc, name, marks, Core::Number(*value))?;
+            let number = drawing.begin(alloc, whole, Core::Number(value))?;
             Ok(Target::Made(number as u32))
         }
         NodeTree::Letter { value, .. } => {
-            let number = drawing.begin(alloc, name, marks, Core::Character(*value))?;
+            let number = drawing.begin(alloc, whole, Core::Character(*value))?;
             Ok(Target::Made(number as u32))
         }
-        NodeTree::Sym { name: symbol, args } => {
-            let number = drawing.begin(alloc, name, marks, Core::Of(symbol))?;
+        NodeTree::Sym { name, args } => {
+            let number = drawing.begin(alloc, whole, Core::Of(name))?;
             let arcs = args_of(alloc, drawing, args.as_slice())?;
             drawing.finish(number, arcs);
             Ok(Target::Made(number as u32))
@@ -135,9 +134,11 @@ fn args_of<'a>(
     drawing: &mut Drawing<'a>,
     args: &'a [ArgTree],
 ) -> Result<Vec<SketchArc<'a>>, Memory>
-    ensures { IfOk result (λ arcs. DrawsArcs (args_draw args.now (next_number drawing.old)) (args_mentioned args.now) drawing.old drawing.new arcs.items) }
+    ensures { IfOk result
+        (λ arcs. DrawsArcs (args_draw args.now (next_number drawing.old)) (args_mentioned args.now)
+        drawing.old drawing.new arcs.items) }
 {
-    let mut arcs = Vec::new(alloc);
+    let mut arcs = Vec::with_capacity(alloc, args.len())?;
     for item in args {
         arcs.push(arg(alloc, drawing, item)?)?;
     }
@@ -150,7 +151,9 @@ fn arg<'a>(
     drawing: &mut Drawing<'a>,
     tree: &'a ArgTree,
 ) -> Result<SketchArc<'a>, Memory>
-    ensures { IfOk result (DrawsArc (arg_draws tree.now (next_number drawing.old)) (arg_mentioned tree.now) drawing.old drawing.new) }
+    ensures { IfOk result
+        (DrawsArc (arg_draws tree.now (next_number drawing.old)) (arg_mentioned tree.now)
+        drawing.old drawing.new) }
 {
     let target = term(alloc, drawing, &tree.term)?;
     Ok(SketchArc {
@@ -159,17 +162,25 @@ fn arg<'a>(
     })
 }
 
-/// Draws a term, and tells what it stands for.
+/// Draws a term, and tells what it stands for. A term without a name and a node, which no text has,
+/// stands for the empty name.
+///
+/// # Errors
+///
+/// Want of memory, which too many new nodes are too. The drawing may then have parts of the term,
+/// and is to be given up.
 #[cycle(draw)]
 pub fn term<'a>(
     alloc: Global,
     drawing: &mut Drawing<'a>,
     tree: &'a TermTree,
 ) -> Result<Target<'a>, Memory>
-    ensures { IfOk result (Draws (term_draws tree.now (next_number drawing.old)) (mentions_in tree.now) drawing.old drawing.new) }
+    ensures { IfOk result
+        (Draws (term_draws tree.now (next_number drawing.old)) (mentions_in tree.now) drawing.old
+        drawing.new) }
 {
     match (&tree.name, &tree.node) {
-        (_, Some(made)) => node(alloc, drawing, made, tree.name.as_ref(), tree.marks),
+        (_, Some(made)) => node(alloc, drawing, made, tree),
         (Some(name), None) => {
             drawing.mentions.push(Mentioned {
                 name,

@@ -1,5 +1,5 @@
 //! The faults of a contractum.
-ghost use Rattle.std.specs.Prelude.{◌≡◌, ◌++◌, ◌||◌, ℕ, List, OnOk, Contains, is_some, map};
+ghost use Rattle.std.specs.Prelude.{◌≡◌, ◌++◌, ◌||◌, ℕ, List, OnOk, IfOk, Contains, is_some, map};
 ghost use Rattle.std.specs.List.{flat_map};
 ghost use Rattle.dactl_meaning.specs.Expansion.{is_among};
 ghost use Rattle.dactl_meaning.specs.RuleFaults.{each_at, again, place_of};
@@ -15,17 +15,22 @@ use crate::contractum::Contractum;
 use crate::drawing::{Core, Mentioned, Sketch};
 use crate::suspending::is_suspending;
 use crate::variables::Variables;
+use crate::viewing::Viewer;
 use dactl_base::refusal::{Kind, Memory, Place, Refusal};
 use dactl_meaning::tree::Marks;
 use dactl_names::NameMap;
 use dactl_symbols::least::lesser;
-use dactl_symbols::sight::{Scopes, Seen};
+use dactl_symbols::sight::Seen;
 use std::alloc::Global;
 
 /// How many arguments a symbol may have.
 const MOST_ARGUMENTS: usize = 16;
 
 /// Adds the fault, if it holds.
+///
+/// # Errors
+///
+/// Want of memory. The faults so far stay.
 pub fn fault_at(
     faults: &mut Vec<Refusal>,
     holds: bool,
@@ -41,7 +46,8 @@ pub fn fault_at(
 }
 
 fn core_fault(faults: &mut Vec<Refusal>, holds: bool, kind: Kind, core: Core) -> Result<(), Memory>
-    ensures { OnOk result (faults.new.items ≡ faults.old.items ++ told.core_fault holds kind (core_of core.entry)) }
+    ensures { OnOk result
+        (faults.new.items ≡ faults.old.items ++ told.core_fault holds kind (core_of core.entry)) }
 {
     match core {
         Core::Number(_) | Core::Character(_) => Ok(()),
@@ -51,7 +57,8 @@ fn core_fault(faults: &mut Vec<Refusal>, holds: bool, kind: Kind, core: Core) ->
 
 /// Adds a `TooWide` for each new node with too many arguments.
 fn too_wide(faults: &mut Vec<Refusal>, made: &[Sketch]) -> Result<(), Memory>
-    ensures { OnOk result (faults.new.items ≡ faults.old.items ++ flat_map told.wide_at (map sketch_of made.now)) }
+    ensures { OnOk result
+        (faults.new.items ≡ faults.old.items ++ flat_map told.wide_at (map sketch_of made.now)) }
 {
     for sketch in made {
         let holds = sketch.arcs.len() > MOST_ARGUMENTS;
@@ -60,32 +67,50 @@ fn too_wide(faults: &mut Vec<Refusal>, made: &[Sketch]) -> Result<(), Memory>
     Ok(())
 }
 
-fn names_pattern(scopes: &Scopes, module: usize, core: Core) -> bool
-    ensures { result ≡ told.names_pattern (seen_in scopes.now «module») (core_of core.entry) }
+/// The number of the symbol that the module sees under the name of a new node, 0 where it sees
+/// none, and whether it sees a pattern there.
+fn symbol_or_pattern(viewer: Viewer, core: Core) -> (u32, bool)
+    ensures symbol { result.0
+        ≡ told.core_symbol (seen_in viewer.entry.scopes.now viewer.entry.owner)
+        (core_of core.entry) }
+    ensures pattern { result.1
+        ≡ told.names_pattern (seen_in viewer.entry.scopes.now viewer.entry.owner)
+        (core_of core.entry) }
 {
     match core {
-        Core::Number(_) | Core::Character(_) => false,
-        Core::Of(name) => match scopes.look(module, name.text.as_slice()) {
-            Some(Seen::Pattern { .. }) => true,
-            _ => false,
+        Core::Number(_) | Core::Character(_) => (0, false),
+        Core::Of(name) => match viewer.scopes.look(viewer.owner, name.text.as_slice()) {
+            Some(Seen::Symbol { id, .. }) => (id, false),
+            Some(Seen::Pattern { .. }) => (0, true),
+            None => (0, false),
         },
     }
 }
 
-/// Adds a `NotCreatable` for each new node under the name of a pattern.
+/// Adds a `NotCreatable` for each new node under the name of a pattern, and tells the numbers of
+/// the new nodes' symbols. Each name is looked up once.
 fn not_creatable(
+    alloc: Global,
     faults: &mut Vec<Refusal>,
-    scopes: &Scopes,
-    module: usize,
+    viewer: Viewer,
     made: &[Sketch],
-) -> Result<(), Memory>
-    ensures { OnOk result (faults.new.items ≡ faults.old.items ++ flat_map (told.creatable_at (seen_in scopes.now «module»)) (map sketch_of made.now)) }
+) -> Result<Vec<u32>, Memory>
+    ensures faults { OnOk result
+        (faults.new.items ≡ faults.old.items
+        ++ flat_map (told.creatable_at (seen_in viewer.entry.scopes.now viewer.entry.owner))
+        (map sketch_of made.now)) }
+    ensures symbols { IfOk result
+        (λ s. s.items
+        ≡ map (told.symbol_at (seen_in viewer.entry.scopes.now viewer.entry.owner))
+        (map sketch_of made.now)) }
 {
+    let mut symbols = Vec::with_capacity(alloc, made.len())?;
     for sketch in made {
-        let holds = names_pattern(scopes, module, sketch.core);
-        core_fault(faults, holds, Kind::NotCreatable, sketch.core)?;
+        let (symbol, is_pattern) = symbol_or_pattern(viewer, sketch.core);
+        core_fault(faults, is_pattern, Kind::NotCreatable, sketch.core)?;
+        symbols.push(symbol)?;
     }
-    Ok(())
+    Ok(symbols)
 }
 
 fn waits_fault(faults: &mut Vec<Refusal>, flags: usize, marks: Marks) -> Result<(), Memory>
@@ -101,16 +126,19 @@ fn waits_fault(faults: &mut Vec<Refusal>, flags: usize, marks: Marks) -> Result<
 
 /// Adds a `TooManyWaits` for each new node with more `#` than arcs that wait.
 fn too_many_waits(faults: &mut Vec<Refusal>, made: &[Sketch]) -> Result<(), Memory>
-    ensures { OnOk result (faults.new.items ≡ faults.old.items ++ flat_map told.waits_at (map sketch_of made.now)) }
+    ensures { OnOk result
+        (faults.new.items ≡ faults.old.items ++ flat_map told.waits_at (map sketch_of made.now)) }
 {
     for sketch in made {
-        waits_fault(faults, sketch.flags(), sketch.marks)?;
+        waits_fault(faults, sketch.flags(), sketch.term.marks)?;
     }
     Ok(())
 }
 
+/// Whether the name is that of a variable or of a new node.
 pub fn is_bound(variables: &Variables, given: &NameMap<usize>, name: &[u8]) -> bool
-    ensures { result ≡ (is_some (variable_number variables.now name.now) || is_some (found given.now name.now)) }
+    ensures { result
+        ≡ (is_some (variable_number variables.now name.now) || is_some (found given.now name.now)) }
 {
     variables.number(name).is_some() || given.get(name).is_some()
 }
@@ -122,7 +150,12 @@ fn unbound(
     given: &NameMap<usize>,
     mentions: &[Mentioned],
 ) -> Result<(), Memory>
-    ensures { OnOk result (faults.new.items ≡ faults.old.items ++ flat_map (told.unbound_at (λ w. is_some (variable_number variables.now w) || is_some (found given.now w))) (map mention_of mentions.now)) }
+    ensures { OnOk result
+        (faults.new.items ≡ faults.old.items
+        ++ flat_map
+        (told.unbound_at
+        (λ w. is_some (variable_number variables.now w) || is_some (found given.now w)))
+        (map mention_of mentions.now)) }
 {
     for mention in mentions {
         let name = mention.name;
@@ -139,7 +172,8 @@ fn mark_fault(
     root: bool,
     marks: Marks,
 ) -> Result<(), Memory>
-    ensures { OnOk result (faults.new.items ≡ faults.old.items ++ told.mark_fault bound variable root marks) }
+    ensures { OnOk result
+        (faults.new.items ≡ faults.old.items ++ told.mark_fault bound variable root marks) }
 {
     match marks {
         Marks::Plain => Ok(()),
@@ -156,7 +190,12 @@ fn mark_on_bound(
     given: &NameMap<usize>,
     mentions: &[Mentioned],
 ) -> Result<(), Memory>
-    ensures { OnOk result (faults.new.items ≡ faults.old.items ++ flat_map (told.mark_at (λ w. is_some (variable_number variables.now w) || is_some (found given.now w)) (is_among variables.now) (is_among roots.now)) (map mention_of mentions.now)) }
+    ensures { OnOk result
+        (faults.new.items ≡ faults.old.items
+        ++ flat_map
+        (told.mark_at
+        (λ w. is_some (variable_number variables.now w) || is_some (found given.now w))
+        (is_among variables.now) (is_among roots.now)) (map mention_of mentions.now)) }
 {
     for mention in mentions {
         let name = mention.name.text.as_slice();
@@ -185,7 +224,9 @@ fn suspended_again(
     roots: &Variables,
     mentions: &[Mentioned],
 ) -> Result<(), Memory>
-    ensures { OnOk result (faults.new.items ≡ faults.old.items ++ told.faults_again (told.suspensions_in roots.now (map mention_of mentions.now))) }
+    ensures { OnOk result
+        (faults.new.items ≡ faults.old.items
+        ++ told.faults_again (told.suspensions_in roots.now (map mention_of mentions.now))) }
 {
     let mut found = false;
     for mention in mentions {
@@ -204,11 +245,14 @@ fn named_twice(
     variables: &Variables,
     made: &[Sketch],
 ) -> Result<(), Memory>
-    ensures { OnOk result (faults.new.items ≡ faults.old.items ++ each_at Kind.NamedTwice (map place_of (again variables.now (given_names (map sketch_of made.now))))) }
+    ensures { OnOk result
+        (faults.new.items ≡ faults.old.items
+        ++ each_at Kind.NamedTwice
+        (map place_of (again variables.now (given_names (map sketch_of made.now))))) }
 {
     let mut seen = NameMap::new(alloc);
     for sketch in made {
-        if let Some(name) = sketch.name {
+        if let Some(name) = &sketch.term.name {
             let word = name.text.as_slice();
             let known = is_bound(variables, &seen, word);
             seen.note(alloc, word, 0)?;
@@ -219,32 +263,43 @@ fn named_twice(
 }
 
 /// Adds the faults of a contractum, kind by kind; `roots` are the names of its root that may have
-/// `#`.
+/// `#`. Tells the numbers of the new nodes' symbols, 0 for a node without one.
+///
+/// # Errors
+///
+/// Want of memory. There may then be faults missing.
 pub fn contractum_faults(
     alloc: Global,
     faults: &mut Vec<Refusal>,
-    scopes: &Scopes,
-    module: usize,
+    viewer: Viewer,
     variables: &Variables,
     roots: &Variables,
     contractum: &Contractum,
-) -> Result<(), Memory>
-    requires { (w : List ℕ) → found contractum.now.given w ≡ node_number (made_in contractum.now.drawing) w }
-    ensures { OnOk result (faults.new.items ≡ faults.old.items ++ told.drawn_faults (seen_in scopes.now «module») variables.now roots.now (made_in contractum.now.drawing) (mentioned_in contractum.now.drawing)) }
+) -> Result<Vec<u32>, Memory>
+    requires { (w : List ℕ) → found contractum.now.given w
+        ≡ node_number (made_in contractum.now.drawing) w }
+    ensures faults { OnOk result
+        (faults.new.items ≡ faults.old.items
+        ++ told.drawn_faults (seen_in viewer.entry.scopes.now viewer.entry.owner) variables.now
+        roots.now (made_in contractum.now.drawing) (mentioned_in contractum.now.drawing)) }
+    ensures symbols { IfOk result
+        (λ s. s.items
+        ≡ map (told.symbol_at (seen_in viewer.entry.scopes.now viewer.entry.owner))
+        (made_in contractum.now.drawing)) }
 {
     let made = contractum.drawing.made.as_slice();
     let mentions = contractum.drawing.mentions.as_slice();
     too_wide(faults, made)?;
     unbound(faults, variables, &contractum.given, mentions)?;
     named_twice(alloc, faults, variables, made)?;
-    not_creatable(faults, scopes, module, made)?;
+    let symbols = not_creatable(alloc, faults, viewer, made)?;
     mark_on_bound(faults, variables, roots, &contractum.given, mentions)?;
     suspended_again(faults, roots, mentions)?;
     too_many_waits(faults, made)?;
-    Ok(())
+    Ok(symbols)
 }
 
-/// The first of the faults.
+/// The first of the faults: by place, and at one place by the order of the kinds.
 pub fn first(faults: &[Refusal]) -> Option<Refusal>
     ensures { TellsLeast (Contains faults.now) result }
 {

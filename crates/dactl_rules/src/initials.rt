@@ -15,6 +15,7 @@ use crate::contractum::{Contractum, draw};
 use crate::faults::{contractum_faults, first};
 use crate::listing::Placed;
 use crate::variables::Variables;
+use crate::viewing::Viewer;
 use dactl_base::refusal::{Memory, Refusal};
 use dactl_meaning::tree::{Item, TermTree};
 use dactl_model::program::{Mention, Start};
@@ -37,7 +38,8 @@ fn drawn<'a>(alloc: Global, terms: &'a [TermTree]) -> Result<Contractum<'a>, Mem
     ensures drawn { IfOk result (λ c. AreDrawn terms.now c.drawing c.targets.items) }
     ensures small { IfOk result (λ c. length c.drawing.made.items < 2 ^ 31) }
     ensures counts { IfOk result (λ c. AreCountable terms.now) }
-    ensures given { IfOk result (λ c. (w : List ℕ) → found c.given w ≡ node_number (made_in c.drawing) w) }
+    ensures given { IfOk result
+        (λ c. (w : List ℕ) → found c.given w ≡ node_number (made_in c.drawing) w) }
 {
     let references = references(alloc, terms)?;
     draw(alloc, references.as_slice())
@@ -49,8 +51,8 @@ fn no_variables(alloc: Global) -> Result<Variables, Memory>
     Variables::new(alloc, Items::new(alloc))
 }
 
-/// The first fault of what a text says of first graphs; and where there is none, what the first that
-/// it says means.
+/// The first fault of what a text says of first graphs; and where there is none, what the first
+/// that it says means.
 #[derive(Drop)]
 pub struct ReadInitials {
     pub fault: Option<Refusal>,
@@ -69,7 +71,9 @@ fn number_of(mention: Mention) -> u32
 /// The number of the node that the first term stands for.
 fn root(contractum: &Contractum, variables: &Variables) -> u32
     requires { IsReady variables.now contractum.now }
-    ensures { result ≡ root_in variables.now (made_in contractum.now.drawing) (map target_of contractum.now.targets.items) }
+    ensures { result
+        ≡ root_in variables.now (made_in contractum.now.drawing)
+        (map target_of contractum.now.targets.items) }
 {
     match contractum.targets.as_slice() {
         [target, ..] => number_of(contractum.meant(variables, *target)),
@@ -84,19 +88,21 @@ fn read_terms(
     owner: usize,
     terms: &[TermTree],
 ) -> Result<ReadInitials, Memory>
-    ensures { IfOk result (AreMeant (seen_in scopes.now) (record { owner = owner; terms = terms.now } ∷ [])) }
+    ensures { IfOk result
+        (AreMeant (seen_in scopes.now) (record { owner = owner; terms = terms.now } ∷ [])) }
 {
     let contractum = drawn(alloc, terms)?;
     let none = no_variables(alloc)?;
     let mut faults = Vec::new(alloc);
-    contractum_faults(alloc, &mut faults, scopes, owner, &none, &none, &contractum)?;
+    let viewer = Viewer { scopes, owner };
+    let symbols = contractum_faults(alloc, &mut faults, viewer, &none, &none, &contractum)?;
     match first(faults.as_slice()) {
         Some(refusal) => Ok(ReadInitials {
             fault: Some(refusal),
             start: None,
         }),
         None => {
-            let fresh = contractum.fresh(alloc, scopes, owner, &none)?;
+            let fresh = contractum.fresh(alloc, &none, symbols.as_slice())?;
             let root = root(&contractum, &none);
             Ok(ReadInitials {
                 fault: None,
@@ -119,12 +125,17 @@ fn read_item(alloc: Global, scopes: &Scopes, item: Placed) -> Result<ReadInitial
 }
 
 /// Reads what the items say of first graphs. The terms of each are drawn once.
+///
+/// # Errors
+///
+/// Want of memory.
 pub fn read_initials(
     alloc: Global,
     scopes: &Scopes,
     items: &[Placed],
 ) -> Result<ReadInitials, Memory>
-    ensures { IfOk result (AreMeant (seen_in scopes.now) (flat_map initials_in (map placed items.now))) }
+    ensures { IfOk result
+        (AreMeant (seen_in scopes.now) (flat_map initials_in (map placed items.now))) }
 {
     let mut least = None;
     let mut kept = None;

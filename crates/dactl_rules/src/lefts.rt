@@ -3,7 +3,8 @@ ghost use Rattle.std.specs.Prelude.{◌≡◌, ◌++◌, ◌&&◌, ◌≤◌, �
 ghost use Rattle.std.specs.List.{filter, flat_map, list_any};
 ghost use Rattle.dactl_base.specs.declared.refusal.Kind.TheVariants as kinds;
 ghost use Rattle.dactl_model.specs.declared.program.Class.TheVariants as classes;
-ghost use Rattle.dactl_meaning.specs.Expansion.{is_among, number_in, is_overwritable as overwritable};
+ghost use Rattle.dactl_meaning.specs.Expansion.{is_among, number_in};
+ghost use Rattle.dactl_meaning.specs.Expansion.{is_overwritable as overwritable};
 ghost use Rattle.dactl_meaning.specs.RuleFaults.{each_at, again, place_of, lefts_of, is_class};
 ghost use Rattle.dactl_symbols.specs.Scoping.{class_in};
 ghost use Rattle.dactl_rules.specs.Lefts.{words, left_unbound, is_fixed, left_fixed};
@@ -11,14 +12,18 @@ ghost use Rattle.dactl_rules.specs.Lefts.{words, left_unbound, is_fixed, left_fi
 use crate::faults::{fault_at, is_bound};
 use crate::overwriting::is_overwritable;
 use crate::variables::Variables;
+use crate::viewing::Viewer;
 use dactl_base::refusal::{Kind, Memory, Refusal};
 use dactl_meaning::tree::{Name, Part};
 use dactl_model::program::Pat;
 use dactl_names::NameMap;
-use dactl_symbols::sight::Scopes;
 use std::alloc::Global;
 
-/// The left sides of the parts.
+/// The left sides of the parts, in their order.
+///
+/// # Errors
+///
+/// Want of memory.
 pub fn lefts<'a>(alloc: Global, parts: &'a [Part]) -> Result<Vec<&'a Name>, Memory>
     ensures { IfOk result (λ lefts. words lefts.items ≡ lefts_of parts.now) }
 {
@@ -44,12 +49,18 @@ pub fn redirect_root(roots: &Variables, lefts: &[&Name]) -> bool
 }
 
 /// Adds an `Unbound` for each left side that is no variable.
+///
+/// # Errors
+///
+/// Want of memory. The faults so far stay.
 pub fn unbound(
     faults: &mut Vec<Refusal>,
     variables: &Variables,
     lefts: &[&Name],
 ) -> Result<(), Memory>
-    ensures { OnOk result (faults.new.items ≡ faults.old.items ++ flat_map (left_unbound variables.now) (words lefts.now)) }
+    ensures { OnOk result
+        (faults.new.items ≡ faults.old.items
+        ++ flat_map (left_unbound variables.now) (words lefts.now)) }
 {
     for left in lefts {
         let holds = variables.number(left.text.as_slice()).is_none();
@@ -60,6 +71,10 @@ pub fn unbound(
 
 /// Adds a `RedirectedTwice` for each left side that is a variable and was one before, or is among
 /// `redirected`.
+///
+/// # Errors
+///
+/// Want of memory. The faults so far stay.
 pub fn redirected_twice(
     alloc: Global,
     faults: &mut Vec<Refusal>,
@@ -67,7 +82,11 @@ pub fn redirected_twice(
     redirected: &Variables,
     lefts: &[&Name],
 ) -> Result<(), Memory>
-    ensures { OnOk result (faults.new.items ≡ faults.old.items ++ each_at kinds.RedirectedTwice (map place_of (again redirected.now (filter (λ n. is_among variables.now n.text) (words lefts.now))))) }
+    ensures { OnOk result
+        (faults.new.items ≡ faults.old.items
+        ++ each_at kinds.RedirectedTwice
+        (map place_of
+        (again redirected.now (filter (λ n. is_among variables.now n.text) (words lefts.now))))) }
 {
     let mut seen = NameMap::new(alloc);
     for left in lefts {
@@ -84,44 +103,49 @@ pub fn redirected_twice(
 /// Whether the name is a variable that may not be redirected: no name of the root, and its node not
 /// over-writable.
 fn is_fixed_variable(
-    scopes: &Scopes,
-    owner: usize,
+    viewer: Viewer,
     variables: &Variables,
     roots: &Variables,
     pattern: &Pat,
     name: &[u8],
 ) -> bool
-    ensures { result ≡ is_fixed (λ f. is_class classes.Overwritable (class_in scopes.now owner f)) variables.now roots.now pattern.now name.now }
+    ensures { result
+        ≡ is_fixed
+        (λ f. is_class classes.Overwritable (class_in viewer.entry.scopes.now viewer.entry.owner f))
+        variables.now roots.now pattern.now name.now }
 {
     match variables.number(name) {
         None => false,
         Some(number) => {
-            roots.number(name).is_none() && !is_overwritable(scopes, owner, number, pattern)
+            roots.number(name).is_none()
+                && !is_overwritable(viewer.scopes, viewer.owner, number, pattern)
         }
     }
 }
 
 /// Adds a `NotOverwritable` for each left side that is a variable and may not be redirected.
+///
+/// # Errors
+///
+/// Want of memory. The faults so far stay.
 pub fn not_overwritable(
     faults: &mut Vec<Refusal>,
-    scopes: &Scopes,
-    owner: usize,
+    viewer: Viewer,
     variables: &Variables,
     roots: &Variables,
     pattern: &Pat,
     lefts: &[&Name],
 ) -> Result<(), Memory>
-    ensures { OnOk result (faults.new.items ≡ faults.old.items ++ flat_map (left_fixed (λ f. is_class classes.Overwritable (class_in scopes.now owner f)) variables.now roots.now pattern.now) (words lefts.now)) }
+    ensures { OnOk result
+        (faults.new.items ≡ faults.old.items
+        ++ flat_map
+        (left_fixed
+        (λ f. is_class classes.Overwritable (class_in viewer.entry.scopes.now viewer.entry.owner f))
+        variables.now roots.now pattern.now) (words lefts.now)) }
 {
     for left in lefts {
-        let holds = is_fixed_variable(
-            scopes,
-            owner,
-            variables,
-            roots,
-            pattern,
-            left.text.as_slice(),
-        );
+        let word = left.text.as_slice();
+        let holds = is_fixed_variable(viewer, variables, roots, pattern, word);
         fault_at(faults, holds, Kind::NotOverwritable, left.place)?;
     }
     Ok(())

@@ -16,5 +16,6 @@ mod roots;
 mod rule;
 mod suspending;
 mod variables;
+mod viewing;
 
 pub use compiling::program;

@@ -18,7 +18,8 @@ pub struct Placed<'a> {
 
 /// Adds the items of a module.
 fn add<'a>(found: &mut Vec<Placed<'a>>, owner: usize, items: &'a [Item]) -> Result<(), Memory>
-    ensures { OnOk result (map placed found.new.items ≡ map placed found.old.items ++ placed_in owner items.now) }
+    ensures { OnOk result
+        (map placed found.new.items ≡ map placed found.old.items ++ placed_in owner items.now) }
 {
     for (number, item) in items.iter().enumerate() {
         found.push(Placed {
@@ -31,6 +32,10 @@ fn add<'a>(found: &mut Vec<Placed<'a>>, owner: usize, items: &'a [Item]) -> Resu
 }
 
 /// The items of a text, in text order.
+///
+/// # Errors
+///
+/// Want of memory.
 pub fn items<'a>(alloc: Global, text: &'a Text) -> Result<Vec<Placed<'a>>, Memory>
     ensures { IfOk result (λ found. map placed found.items ≡ items_in text.now) }
 {

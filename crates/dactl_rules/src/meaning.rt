@@ -1,12 +1,15 @@
 //! What a contractum without faults means.
-ghost use Rattle.std.specs.Prelude.{◌≡◌, ◌++◌, ◌<◌, ◌≤◌, ◌^◌, ◌&&◌, List, [], ◌∷◌, IfOk, OnOk, length, map};
+ghost use Rattle.std.specs.Prelude.{◌≡◌, ◌++◌, ◌<◌, ◌≤◌, ◌^◌, ◌&&◌, List, [], ◌∷◌, IfOk, OnOk};
+ghost use Rattle.std.specs.Prelude.{length, map};
 ghost use Rattle.std.specs.List.{filter_map};
-ghost use Rattle.dactl_meaning.specs.Contractum.{denotes, name_denotes, label_of, mark_of, fresh_of, left_of_part, term_of_part, moves_of};
-ghost use Rattle.dactl_symbols.specs.Scoping.{seen_in};
-ghost use Rattle.dactl_rules.specs.Drawing.{target_of, core_of, arc_of, sketch_of, mention_of, made_in, mentioned_in};
+ghost use Rattle.dactl_meaning.specs.Contractum.{denotes, name_denotes, mark_of, left_of_part};
+ghost use Rattle.dactl_meaning.specs.Contractum.{term_of_part, moves_of};
+ghost use Rattle.dactl_rules.specs.Drawing.{target_of, core_of, arc_of, sketch_of, mention_of};
+ghost use Rattle.dactl_rules.specs.Drawing.{made_in, mentioned_in};
 ghost use Rattle.dactl_rules.specs.Terms.{IsReady, AreDrawn};
 ghost use Rattle.dactl_meaning.specs.Expansion.{number_in};
-ghost use Rattle.dactl_rules.specs.Meant.{arc_meant, wake_of, moves_by, root_by};
+ghost use Rattle.dactl_rules.specs.Meant.{arc_meant, label_with, node_with, nodes_with};
+ghost use Rattle.dactl_rules.specs.Meant.{wake_of, moves_by, root_by};
 
 use crate::contractum::Contractum;
 use crate::drawing::{Core, Mentioned, Sketch, SketchArc, Target};
@@ -15,20 +18,17 @@ use dactl_base::refusal::Memory;
 use dactl_meaning::tree::{Marks, Part};
 use dactl_model::graph::{Label, Mark};
 use dactl_model::program::{FreshArc, FreshNode, Left, Mention, Move};
-use dactl_symbols::sight::{Scopes, Seen};
 use sqlite_items::Items;
 use std::alloc::{AllocError, Global};
 
-fn label(scopes: &Scopes, module: usize, core: Core) -> Label
-    ensures { result ≡ label_of (seen_in scopes.now «module») (core_of core.entry) }
+/// The label of a new node, whose symbol has that number if it is a symbol's.
+fn label(core: Core, symbol: u32) -> Label
+    ensures { result ≡ label_with (core_of core.entry) symbol }
 {
     match core {
-        Core::Number(value) => Label::Integer(value),
+        Core::Number(value) => Label::Integer(*value),
         Core::Character(value) => Label::Character(value),
-        Core::Of(name) => match scopes.look(module, name.text.as_slice()) {
-            Some(Seen::Symbol { id, .. }) => Label::Symbol(id),
-            _ => Label::Symbol(0),
-        },
+        Core::Of(_) => Label::Symbol(symbol),
     }
 }
 
@@ -64,10 +64,12 @@ impl Contractum<'_> {
         }
     }
 
-    /// The node that is meant.
+    /// The node that is meant: a variable's before a new one's, and for a name that is not bound
+    /// the number behind the last new node's.
     pub fn meant(&self, variables: &Variables, target: Target) -> Mention
         requires { IsReady variables.now self.now }
-        ensures { result ≡ denotes variables.now (made_in self.now.drawing) (target_of target.entry) }
+        ensures { result
+            ≡ denotes variables.now (made_in self.now.drawing) (target_of target.entry) }
     {
         match target {
             Target::Made(number) => Mention::Fresh(number),
@@ -82,7 +84,9 @@ impl Contractum<'_> {
         arcs: &[SketchArc],
     ) -> Result<Items<FreshArc>, Memory>
         requires { IsReady variables.now self.now }
-        ensures { IfOk result (λ meant. meant ≡ map (arc_meant variables.now (made_in self.now.drawing)) (map arc_of arcs.now)) }
+        ensures { IfOk result
+            (λ meant. meant
+            ≡ map (arc_meant variables.now (made_in self.now.drawing)) (map arc_of arcs.now)) }
     {
         let mut meant = Vec::with_capacity(alloc, arcs.len())?;
         for arc in arcs {
@@ -97,42 +101,55 @@ impl Contractum<'_> {
     fn node(
         &self,
         alloc: Global,
-        scopes: &Scopes,
-        module: usize,
         variables: &Variables,
         sketch: &Sketch,
+        symbol: u32,
     ) -> Result<FreshNode, Memory>
         requires { IsReady variables.now self.now }
-        ensures { IfOk result (λ node. node ≡ fresh_of (seen_in scopes.now «module») variables.now (made_in self.now.drawing) (sketch_of sketch.now)) }
+        ensures { IfOk result
+            (λ n. n
+            ≡ node_with variables.now (made_in self.now.drawing) (sketch_of sketch.now) symbol) }
     {
-        let label = label(scopes, module, sketch.core);
+        let label = label(sketch.core, symbol);
         let arcs = self.arcs(alloc, variables, sketch.arcs.as_slice())?;
-        let mark = mark(sketch.marks)?;
+        let mark = mark(sketch.term.marks)?;
         Ok(FreshNode { label, arcs, mark })
     }
 
-    /// The new nodes.
+    /// The new nodes, whose symbols have these numbers.
+    ///
+    /// # Errors
+    ///
+    /// Want of memory, which more than 255 `#` before a node are too.
     pub fn fresh(
         &self,
         alloc: Global,
-        scopes: &Scopes,
-        module: usize,
         variables: &Variables,
+        symbols: &[u32],
     ) -> Result<Items<FreshNode>, Memory>
-        requires { IsReady variables.now self.now }
-        ensures { IfOk result (λ fresh. fresh ≡ map (fresh_of (seen_in scopes.now «module») variables.now (made_in self.now.drawing)) (made_in self.now.drawing)) }
+        requires ready { IsReady variables.now self.now }
+        requires symbols { length symbols.now ≡ length self.now.drawing.made.items }
+        ensures { IfOk result
+            (λ fresh. fresh
+            ≡ nodes_with variables.now (made_in self.now.drawing) (made_in self.now.drawing)
+            symbols.now) }
     {
-        let mut fresh = Vec::with_capacity(alloc, self.drawing.made.len())?;
-        for sketch in self.drawing.made.as_slice() {
-            fresh.push(self.node(alloc, scopes, module, variables, sketch)?)?;
+        let mut fresh = Vec::with_capacity(alloc, symbols.len())?;
+        for (number, sketch) in self.drawing.made.as_slice().iter().enumerate() {
+            fresh.push(self.node(alloc, variables, sketch, symbols[number])?)?;
         }
         Ok(Items::from_vec(fresh))
     }
 
-    /// The variables whose nodes wake.
+    /// The variables whose nodes wake, in the order of their mentions.
+    ///
+    /// # Errors
+    ///
+    /// Want of memory.
     pub fn wakes(&self, alloc: Global, variables: &Variables) -> Result<Items<u8>, Memory>
         requires { IsReady variables.now self.now }
-        ensures { IfOk result (λ wakes. wakes ≡ filter_map (wake_of variables.now) (mentioned_in self.now.drawing)) }
+        ensures { IfOk result
+            (λ wakes. wakes ≡ filter_map (wake_of variables.now) (mentioned_in self.now.drawing)) }
     {
         let mut wakes = Vec::new(alloc);
         for mention in self.drawing.mentions.as_slice() {
@@ -152,7 +169,10 @@ impl Contractum<'_> {
     ) -> Result<(), Memory>
         requires ready { IsReady variables.now self.now }
         requires parts { length parts.now ≡ length self.now.targets.items }
-        ensures { OnOk result (moves.new.items ≡ moves.old.items ++ moves_by variables.now (made_in self.now.drawing) parts.now (map target_of self.now.targets.items)) }
+        ensures { OnOk result
+            (moves.new.items ≡ moves.old.items
+            ++ moves_by variables.now (made_in self.now.drawing) parts.now
+            (map target_of self.now.targets.items)) }
     {
         for (number, part) in parts.iter().enumerate() {
             if let Part::Redirect { left, .. } = part {
@@ -166,6 +186,10 @@ impl Contractum<'_> {
 
     /// The redirections of the parts whose terms these are; `redirects` says that the root is
     /// redirected first.
+    ///
+    /// # Errors
+    ///
+    /// Want of memory.
     pub fn moves(
         &self,
         alloc: Global,
@@ -174,7 +198,8 @@ impl Contractum<'_> {
         parts: &[Part],
     ) -> Result<Items<Move>, Memory>
         requires ready { IsReady variables.now self.now }
-        requires drawn { AreDrawn (map term_of_part parts.now) self.now.drawing self.now.targets.items }
+        requires drawn { AreDrawn (map term_of_part parts.now) self.now.drawing
+            self.now.targets.items }
         ensures { IfOk result (λ moves. moves ≡ moves_of variables.now redirects parts.now) }
     {
         let mut moves = self.root_moves(alloc, variables, redirects)?;
@@ -190,7 +215,10 @@ impl Contractum<'_> {
         redirects: bool,
     ) -> Result<Vec<Move>, Memory>
         requires { IsReady variables.now self.now }
-        ensures { IfOk result (λ moves. moves.items ≡ root_by variables.now (made_in self.now.drawing) redirects (map target_of self.now.targets.items)) }
+        ensures { IfOk result
+            (λ moves. moves.items
+            ≡ root_by variables.now (made_in self.now.drawing) redirects
+            (map target_of self.now.targets.items)) }
     {
         let mut moves = Vec::new(alloc);
         match self.targets.as_slice() {

@@ -8,6 +8,7 @@ ghost use Rattle.dactl_rules.specs.Writing.{is_so, gives, some_give};
 use dactl_model::program::{Class, Pat};
 use dactl_symbols::sight::Scopes;
 
+/// Whether the symbol is rewritable for the module.
 pub fn is_rewritable(scopes: &Scopes, owner: usize, symbol: u32) -> bool
     ensures { result ≡ is_class classes.Rewritable (class_in scopes.now owner symbol) }
 {
@@ -28,7 +29,9 @@ fn is_overwritable_symbol(scopes: &Scopes, owner: usize, symbol: u32) -> bool
 
 /// Whether the pattern holds at over-writable nodes alone.
 fn holds_at_overwritable(scopes: &Scopes, owner: usize, variable: usize, pattern: &Pat) -> bool
-    ensures { result ≡ is_so (λ f. is_class classes.Overwritable (class_in scopes.now owner f)) variable pattern.now }
+    ensures { result
+        ≡ is_so (λ f. is_class classes.Overwritable (class_in scopes.now owner f)) variable
+        pattern.now }
 {
     match pattern {
         Pat::Any | Pat::Int | Pat::Char | Pat::Literal(_) | Pat::Letter(_) => false,
@@ -45,7 +48,9 @@ fn holds_at_overwritable(scopes: &Scopes, owner: usize, variable: usize, pattern
 /// Whether the pattern behind the variable holds at over-writable nodes alone.
 #[cycle(overwritable)]
 pub fn is_overwritable(scopes: &Scopes, owner: usize, variable: usize, pattern: &Pat) -> bool
-    ensures { result ≡ gives (λ f. is_class classes.Overwritable (class_in scopes.now owner f)) variable pattern.now }
+    ensures { result
+        ≡ gives (λ f. is_class classes.Overwritable (class_in scopes.now owner f)) variable
+        pattern.now }
 {
     match pattern {
         Pat::Any | Pat::Int | Pat::Char | Pat::Literal(_) | Pat::Letter(_) => false,
@@ -64,7 +69,9 @@ pub fn is_overwritable(scopes: &Scopes, owner: usize, variable: usize, pattern: 
 
 #[cycle(overwritable)]
 fn in_arguments(scopes: &Scopes, owner: usize, variable: usize, args: &[Pat]) -> bool
-    ensures { result ≡ some_give (λ f. is_class classes.Overwritable (class_in scopes.now owner f)) variable args.now }
+    ensures { result
+        ≡ some_give (λ f. is_class classes.Overwritable (class_in scopes.now owner f)) variable
+        args.now }
 {
     for argument in args {
         if is_overwritable(scopes, owner, variable, argument) {

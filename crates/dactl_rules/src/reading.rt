@@ -18,8 +18,8 @@ use dactl_patterns::{NamedPatterns, head_symbol};
 use sqlite_items::Items;
 use std::alloc::Global;
 
-/// The symbol at the head of a rule, its variables, the names of its root, those among them that may
-/// have `#`, its left sides and its contractum.
+/// The symbol at the head of a rule, its variables, the names of its root, those among them that
+/// may have `#`, its left sides and its contractum.
 #[derive(Drop)]
 pub struct RuleParts<'a> {
     pub head: Option<u32>,
@@ -75,7 +75,11 @@ fn suspendable(
     }
 }
 
-/// Reads a rule of the module, whose pattern has these variables.
+/// Reads a rule of the module, whose pattern has these variables. Nothing is checked yet.
+///
+/// # Errors
+///
+/// Want of memory.
 pub fn read<'a>(
     alloc: Global,
     patterns: &NamedPatterns,

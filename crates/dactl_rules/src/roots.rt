@@ -9,6 +9,10 @@ use sqlite_items::Items;
 use std::alloc::Global;
 
 /// Adds the names of the root of a rule with this pattern to `names`.
+///
+/// # Errors
+///
+/// Want of memory. Some of the names may then be there.
 pub fn root_names(
     alloc: Global,
     names: &mut Items<Items<u8>>,

@@ -29,7 +29,11 @@ impl Model for Variables {
 }
 
 impl Variables {
-    /// The variables of these names, which are all different.
+    /// The variables of these names. A name that comes again keeps its first number.
+    ///
+    /// # Errors
+    ///
+    /// Want of memory. The names are then given back.
     pub fn new(alloc: Global, names: Items<Items<u8>>) -> Result<Variables, Memory>
         ensures { IfOk result (λ v. v ≡ names) }
     {
@@ -65,6 +69,7 @@ impl Variables {
         self.number(name).is_some()
     }
 
+    /// How many variables there are.
     pub fn count(&self) -> usize
         ensures { result ≡ length self.now }
     {

@@ -3,7 +3,7 @@ use Rattle.dactl_rules.proofs.drawing.+draw.Goals as goal
 
 pub node-returns-in_ok-arcs-in-Sym : goal.node-returns-in_ok-arcs-in-Sym
 node-returns-in_ok-arcs-in-Sym t c =
-    node_drawn_at c.args.tree.now c.in-Sym.symbol c.in-Sym.args c.args.name c.args.marks c.args.drawing.now c.begin-in-Sym.new.self c.args_of.new.drawing c.finish.new.self c.in_ok-number-in-Sym.number c.in_ok-arcs-in-Sym.arcs.items
+    node_drawn_at c.args.tree.now c.in-Sym.name c.in-Sym.args c.args.whole.now.name c.args.whole.now.marks c.args.drawing.now c.begin-in-Sym.new.self c.args_of.new.drawing c.finish.new.self c.in_ok-number-in-Sym.number c.in_ok-arcs-in-Sym.arcs.items
     c.in-Sym.is c.in_ok-number-in-Sym.ensures.grows c.in_ok-number-in-Sym.ensures.number (rw c.as_slice.ensures at c.in_ok-arcs-in-Sym.ensures) c.finish.ensures.made c.finish.ensures.mentions
 
 pub args_of-loop-item-preserved : goal.args_of-loop-item-preserved

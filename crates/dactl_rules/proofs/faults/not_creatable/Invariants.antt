@@ -6,4 +6,7 @@ use Rattle.dactl_rules.specs.Told as told
 use Rattle.dactl_rules.proofs.faults.not_creatable.Given as goal
 
 abbrev pub invariant-loop-sketch : goal.invariant-loop-sketch
-invariant-loop-sketch l = l.faults.items ≡ l.initial.faults.items ++ flat_map (told.creatable_at (seen_in l.scopes l.«module»)) (map sketch_of (take l.sketch-index l.made))
+invariant-loop-sketch l = record {
+  faults : l.faults.items ≡ l.initial.faults.items ++ flat_map (told.creatable_at (seen_in l.viewer.scopes.now l.viewer.owner)) (map sketch_of (take l.sketch-index l.made));
+  symbols : l.symbols.items ≡ map (told.symbol_at (seen_in l.viewer.scopes.now l.viewer.owner)) (map sketch_of (take l.sketch-index l.made));
+}

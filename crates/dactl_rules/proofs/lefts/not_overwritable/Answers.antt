@@ -12,9 +12,9 @@ use Rattle.dactl_rules.proofs.lefts.not_overwritable.Goals as goal
 
 pub loop-left-preserved : goal.loop-left-preserved
 loop-left-preserved c =
-    let writable : ℕ → Bool = λ f. is_class classes.Overwritable (class_in c.args.scopes.now c.args.owner f) in
+    let writable : ℕ → Bool = λ f. is_class classes.Overwritable (class_in c.args.viewer.scopes.now c.args.viewer.owner f) in
     let left = c.left-item.result in
-    let holds = c.is_fixed_variable-holds.ensures ∙ ap (is_fixed writable c.args.variables.now c.args.roots.now c.args.pattern.now) c.as_slice.ensures in
+    let holds = c.is_fixed_variable-holds.ensures ∙ ap (is_fixed writable c.args.variables.now c.args.roots.now c.args.pattern.now) c.as_slice-word.ensures in
     flat_step (left_fixed writable c.args.variables.now c.args.roots.now c.args.pattern.now) (λ (n : Bor Name). n.now) c.args.lefts.now c.loop-left.left-index left c.args.faults.now.items c.loop-left.faults.items c.fault_at.new.faults.items
     c.loop-left-test.true c.left-item.is c.loop-left.invariant
     (c.in_ok-fault_at.ensures ∙ ap (λ (b : Bool). c.loop-left.faults.items ++ fault_at b kinds.NotOverwritable left.now.place) holds)

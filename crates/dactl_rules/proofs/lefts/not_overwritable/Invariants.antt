@@ -7,4 +7,4 @@ use Rattle.dactl_rules.specs.Lefts.{words, left_fixed}
 use Rattle.dactl_rules.proofs.lefts.not_overwritable.Given as goal
 
 abbrev pub invariant-loop-left : goal.invariant-loop-left
-invariant-loop-left l = l.faults.items ≡ l.initial.faults.items ++ flat_map (left_fixed (λ f. is_class classes.Overwritable (class_in l.scopes l.owner f)) l.variables l.roots l.pattern) (words (take l.left-index l.lefts))
+invariant-loop-left l = l.faults.items ≡ l.initial.faults.items ++ flat_map (left_fixed (λ f. is_class classes.Overwritable (class_in l.viewer.scopes.now l.viewer.owner f)) l.variables l.roots l.pattern) (words (take l.left-index l.lefts))

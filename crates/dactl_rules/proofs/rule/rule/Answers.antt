@@ -11,12 +11,14 @@ use Rattle.dactl_symbols.proofs.Sooner.{tells-sooner}
 use Rattle.dactl_patterns.specs.Expanded.{IsExpansion}
 use Rattle.dactl_validity.specs.Counting.{AreCounted}
 use Rattle.dactl_rules.specs.Rules.{meant_of, IsAnswerFor}
+use Rattle.dactl_symbols.specs.Scoping.{seen_in}
+use Rattle.dactl_rules.proofs.Meanings.{symbols_many}
 use Rattle.dactl_rules.proofs.WholeRules.{few_variables, whole_told, answer_due, meant_is}
 use Rattle.dactl_rules.proofs.rule.rule.Goals as goal
 
-pub returns-in_err-faults-clause-faults : goal.returns-in_err-faults-clause-faults
-returns-in_err-faults-clause-faults c =
-    let p = err_from_is_err_and c.from_residual-in_err-faults.result c.from_residual-in_err-faults.ensures.1 in
+pub returns-in_err-known-clause-faults : goal.returns-in_err-known-clause-faults
+returns-in_err-known-clause-faults c =
+    let p = err_from_is_err_and c.from_residual-in_err-known.result c.from_residual-in_err-known.ensures.1 in
     rw (p.1, p.2) tt
 
 pub with_pattern-requires-clause-ready : goal.with_pattern-requires-clause-ready
@@ -35,15 +37,15 @@ returns-in-Some-clause-faults c =
     let text = c.args.patterns.now.text.now in
     let tree = c.args.tree.now in
     let found = subst (IsExpansion text c.args.owner false tree.pattern) c.in-Some.is c.in_ok-variables.ensures.pat in
-    whole_told text c.args.patterns.now.scopes.now c.args.owner tree c.in_ok-parts.parts c.requires.scopes c.in_ok-parts.ensures c.in_ok-faults.faults.items c.in-Some.pattern c.with_pattern.result c.in_ok-faults.ensures found.1
-    (c.with_pattern.ensures.faults (pattern_faults text c.args.owner false tree.place.byte tree.pattern) c.in_ok-variables.ensures.fault)
+    whole_told text c.args.patterns.now.scopes.now c.args.owner tree c.in_ok-parts.parts c.requires.scopes c.in_ok-parts.ensures c.in_ok-known.known.faults.items c.in-Some.pattern c.with_pattern.result c.in_ok-known.ensures.faults found.1
+    (c.with_pattern.ensures.faults (pattern_faults text c.args.owner false tree.place.byte tree.pattern) (subst (TellsLeast (Contains (pattern_faults text c.args.owner false tree.place.byte tree.pattern))) (sym c.in_ok-known.ensures.of_pattern) c.in_ok-variables.ensures.fault))
 
 pub returns-in-Some-clause-meaning : goal.returns-in-Some-clause-meaning
 returns-in-Some-clause-meaning c =
     let text = c.args.patterns.now.text.now in
     let found = subst (IsExpansion text c.args.owner false c.args.tree.now.pattern) c.in-Some.is c.in_ok-variables.ensures.pat in
-    let is = ap (meant_of c.args.patterns.now.scopes.now c.args.owner c.args.group c.args.tree.now c.in_ok-parts.parts) found.1
-    ∙ meant_is text c.args.patterns.now.scopes.now c.args.owner c.args.group c.args.tree.now c.in_ok-parts.parts c.requires.scopes c.in_ok-parts.ensures in
+    let is = ap (meant_of c.in_ok-known.known.symbols.items c.args.group c.args.tree.now c.in_ok-parts.parts) found.1
+    ∙ meant_is text c.args.patterns.now.scopes.now c.args.owner c.args.group c.args.tree.now c.in_ok-parts.parts c.requires.scopes c.in_ok-parts.ensures c.in_ok-known.known.symbols.items c.in_ok-known.ensures.symbols in
     IfOk-weaker c.with_pattern.result _ _ (λ r e. e ∙ is) c.with_pattern.ensures.meaning
 
 pub returns-in-Some-clause-counts : goal.returns-in-Some-clause-counts
@@ -58,6 +60,10 @@ returns-clause-faults c =
     let pattern = pattern_faults text c.args.owner false tree.place.byte tree.pattern in
     let wide = subst (IsExpansion text c.args.owner false tree.pattern) c.in-None.is c.in_ok-variables.ensures.pat in
     let first = subst (λ (l : List Refusal). TellsLeast (Contains l) c.first.result) c.as_slice.ensures.value c.first.ensures in
-    answer_due text c.args.patterns.now.scopes.now c.args.owner tree c.in_ok-parts.parts c.requires.scopes c.in_ok-parts.ensures c.in_ok-faults.faults.items c.lesser-least.result c.too_wide.result c.in_ok-faults.ensures wide
-    (subst (TellsLeast (λ x. Contains c.in_ok-faults.faults.items x ⊎ Contains pattern x)) (sym c.lesser-least.ensures) (tells-sooner (Contains c.in_ok-faults.faults.items) (Contains pattern) c.first.result c.in_ok-variables.field-0.fault first c.in_ok-variables.ensures.fault))
+    answer_due text c.args.patterns.now.scopes.now c.args.owner tree c.in_ok-parts.parts c.requires.scopes c.in_ok-parts.ensures c.in_ok-known.known.faults.items c.lesser-least.result c.too_wide.result c.in_ok-known.ensures.faults wide
+    (subst (TellsLeast (λ x. Contains c.in_ok-known.known.faults.items x ⊎ Contains pattern x)) (sym c.lesser-least.ensures) (tells-sooner (Contains c.in_ok-known.known.faults.items) (Contains pattern) c.first.result c.in_ok-known.known.of_pattern first
+    (subst (TellsLeast (Contains pattern)) (sym c.in_ok-known.ensures.of_pattern) c.in_ok-variables.ensures.fault)))
     (subst (λ (l : List (Bor Name)). IsAnswerFor c.lesser-least.result l tree.place c.too_wide.result) c.as_slice-in-None.ensures.value c.too_wide.ensures)
+
+pub with_pattern-requires-clause-symbols : goal.with_pattern-requires-clause-symbols
+with_pattern-requires-clause-symbols c = symbols_many (seen_in c.args.patterns.now.scopes.now c.args.owner) c.in_ok-parts.parts.contractum.drawing.made.items c.in_ok-known.known.symbols.items c.in_ok-known.ensures.symbols
