@@ -1,6 +1,6 @@
 -- The faults of the names that a text uses.
-use Rattle.std.proofs.Common.{◌≡◌, ℕ, ◌<◌, Bool, true, false, cond, not, ◌⊎◌, inl, inr, List, map, Option, Some, None, refl, sym, ap, ◌∙◌, subst, true≢false, arith}
-use Rattle.std.specs.Prelude.{Any, IsNone, is_some, option_map}
+use Rattle.std.proofs.Common.{◌≡◌, ℕ, ◌<◌, Bool, true, false, cond, not, if◌then◌else◌, ◌⊎◌, inl, inr, List, map, Option, Some, None, refl, sym, ap, ◌∙◌, subst, true≢false, arith}
+use Rattle.std.specs.Prelude.{Any, IsNone, is_none, is_some, option_map, option_and_then}
 use Rattle.std.specs.List.{flat_map, enumerate_from}
 use Rattle.dactl_base.specs.declared.refusal.Kind.TheVariants as kinds
 use Rattle.dactl_base.specs.declared.refusal.Refusal.{Refusal}
@@ -14,7 +14,12 @@ use Rattle.dactl_meaning.specs.Uses.{Use, item_uses, uses}
 use Rattle.dactl_meaning.specs.ScopeFaults.{IsUnknown, UnknownName, NotVisible, is_usable, is_pattern}
 use Rattle.dactl_symbols.specs.Least.{least_by, TellsLeast}
 use Rattle.dactl_symbols.specs.Sights.{Sights}
-use Rattle.dactl_symbols.specs.Scoping.{seen_in}
+use Rattle.dactl_meaning.specs.Sight as sight
+use Rattle.dactl_symbols.specs.declared.names.Meaning.{Meaning}
+use Rattle.dactl_symbols.specs.declared.sight.Seen.{Seen}
+use Rattle.dactl_symbols.specs.Declaring.{entity_of}
+use Rattle.dactl_symbols.specs.Meanings.{First, meaning_of, meaning_in}
+use Rattle.dactl_symbols.specs.Scoping.{told, first_seen, seen_in}
 use Rattle.dactl_symbols.specs.UseFaults.{is_known, is_known_entity, is_known_first, use_fault}
 use Rattle.dactl_symbols.proofs.Sooner.{tells-same, tells-least_by, least_by-flat_map, least_by-map}
 use Rattle.dactl_symbols.proofs.Single.{Of, not_before}
@@ -127,3 +132,34 @@ tells-uses text s right =
       | inr y ↦ (y.1.0, y.1.1, y.1.2, y.1.3, record { at = y.1.4.0; why = inr (y.0, y.1.4.1, y.1.4.2) })
     ])
     (tells-least_by (UseHas text) (λ (u : ℕ × Use). use_fault s u.0 u.1) (use_told text s right) (uses text))
+
+-- ---- a name that means something
+
+-- the fault of a use, by whether it is known and whether nothing is seen
+abbrev told_by : Use → Bool → Bool → Option Refusal
+told_by u known none = if not known then Some (record { kind = kinds.UnknownName; place = u.name.place }) else if none then Some (record { kind = kinds.NotVisible; place = u.name.place }) else None
+
+-- the same, by what its name means
+fault_by : Sights → ℕ → Use → Option First → Option Refusal
+fault_by s m u o = told_by u (is_known_first o u.given) (is_none (option_and_then (first_seen s m) o))
+
+use_fault-by : (s : Sights) (m : ℕ) (u : Use) (o : Option First) → o ≡ meaning_in s.names u.name.text → fault_by s m u o ≡ use_fault s m u
+unfolding fault_by seen_in
+use_fault-by s m u o is = ap (fault_by s m u) is
+
+none_told : (o : Option Seen) (seen : Option sight.Seen) → option_map told o ≡ seen → is_none o ≡ is_none seen
+none_told None seen e = ap (λ (z : Option sight.Seen). is_none z) e
+none_told (Some x) seen e = ap (λ (z : Option sight.Seen). is_none z) e
+
+-- the fault of a name that may be used, by whether it is seen
+pub use_fault-known : (s : Sights) (m : ℕ) (u : Use) (f : Meaning) (o : Option Seen) → Some (meaning_of f) ≡ meaning_in s.names u.name.text → is_known_entity (entity_of f.entity) u.given ≡ true → option_map told o ≡ first_seen s m (meaning_of f)
+    → told_by u true (is_none o) ≡ use_fault s m u
+unfolding fault_by
+use_fault-known s m u f o means known sees =
+    (λ j. told_by u (sym known j) (none_told o (first_seen s m (meaning_of f)) sees j)) ∙ use_fault-by s m u (Some (meaning_of f)) means
+
+pub hidden_or_none : (o : Option Seen) (u : Use) (is : Bool) → is_some o ≡ is → (if is then None else Some (record { kind = kinds.NotVisible; place = u.name.place })) ≡ told_by u true (is_none o)
+hidden_or_none None u true e = absurd (true≢false (sym e))
+hidden_or_none None u false e = refl
+hidden_or_none (Some x) u true e = refl
+hidden_or_none (Some x) u false e = absurd (true≢false e)

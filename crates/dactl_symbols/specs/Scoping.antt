@@ -9,7 +9,7 @@ use Rattle.dactl_meaning.specs.Sight as sight
 use Rattle.dactl_meaning.specs.Sight.{SeenSymbol, SeenPattern, entity_seen, class_seen, sees, class_for}
 use Rattle.dactl_symbols.specs.declared.sight.Seen.{Seen}
 use Rattle.dactl_symbols.specs.declared.sight.Seen.TheVariants as seen
-use Rattle.dactl_symbols.specs.Meanings.{meaning_in}
+use Rattle.dactl_symbols.specs.Meanings.{First, meaning_in}
 use Rattle.dactl_symbols.specs.Sights.{Sights, owned_in, has_link}
 
 -- what is seen, as the definitions of a text's names have it
@@ -17,10 +17,14 @@ abbrev pub told : Seen → sight.Seen
 told (seen.Symbol id class) = SeenSymbol id class
 told (seen.Pattern owner item) = SeenPattern owner item
 
+-- what module m sees of a name that means this
+abbrev pub first_seen : Sights → ℕ → First → Option sight.Seen
+first_seen s m f = entity_seen (same_home f.home (Written m)) (has_link s.links m f.home) f.number f.entity
+
 -- The next three say what scopes answer by what they hold. That it is right for a text is IsScopesOf.
 
 unfoldable pub seen_in : Sights → ℕ → List ℕ → Option sight.Seen
-seen_in s m word = option_and_then (λ f. entity_seen (same_home f.home (Written m)) (has_link s.links m f.home) f.number f.entity) (meaning_in s.names word)
+seen_in s m word = option_and_then (first_seen s m) (meaning_in s.names word)
 
 unfoldable pub class_in : Sights → ℕ → ℕ → Option Class
 class_in s m n = option_and_then (λ o. class_seen (same_home o.home (Written m)) (has_link s.links m o.home) o.class o.public) (slice_get (filter_map owned_in s.names) n)

@@ -3,7 +3,8 @@
 ghost use Rattle.std.specs.Prelude.{◌≡◌, map, drop};
 ghost use Rattle.dactl_symbols.specs.Declaring.{import_of};
 ghost use Rattle.dactl_symbols.specs.Least.{least_by};
-ghost use Rattle.dactl_symbols.specs.Counting.{fault_at, import_fault, initial_fault, name_beyond, rule_beyond};
+ghost use Rattle.dactl_symbols.specs.Counting.{fault_at, import_fault, initial_fault};
+ghost use Rattle.dactl_symbols.specs.Counting.{name_beyond, rule_beyond};
 
 use crate::least::lesser;
 use crate::names::Names;

@@ -2,7 +2,8 @@
 
 ghost use Rattle.std.specs.Prelude.{◌≡◌, [], IfOk, OnOk, map, option_map};
 ghost use Rattle.dactl_symbols.specs.Declaring.{declaration_of, entity_of};
-ghost use Rattle.dactl_symbols.specs.Meanings.{meaning_of, meaning_in, again_after, count_with, found_in, repeats, first_with, Adds};
+ghost use Rattle.dactl_symbols.specs.Meanings.{meaning_of, meaning_in, again_after, count_with};
+ghost use Rattle.dactl_symbols.specs.Meanings.{found_in, repeats, first_with, Adds};
 
 use crate::least::lesser;
 use crate::survey::{Declared, Entity, Home};
@@ -39,7 +40,8 @@ impl Model for Names {
 
     ghost view = { λ n. map declaration_of n.declared.items };
 
-    ghost invariant = { λ n. AreNames (map declaration_of n.declared.items) (found_in n.first) n.again };
+    ghost invariant = { λ n.
+        AreNames (map declaration_of n.declared.items) (found_in n.first) n.again };
 }
 
 /// The number of symbols after one declaration more.
@@ -52,16 +54,19 @@ fn counted(symbols: u32, entity: Entity) -> u32
     }
 }
 
-/// Adds what a name means by this declaration. Where it means something already, that stays, and the
-/// answer is the fault.
+/// Adds what a name means by this declaration. Where it means something already, that stays, and
+/// the answer is the fault.
 fn note(
     first: &mut NameMap<Meaning>,
     alloc: Global,
     declared: &Declared,
     symbols: u32,
 ) -> Result<Option<Refusal>, Memory>
-    ensures fault { IfOk result (λ fault. fault ≡ repeats (found_in first.old declared.now.name.text) declared.now.name) }
-    ensures added { OnOk result (Adds (found_in first.old) (found_in first.new) declared.now.name.text (first_with (declaration_of declared.now) symbols)) }
+    ensures fault { IfOk result
+        (λ fault. fault ≡ repeats (found_in first.old declared.now.name.text) declared.now.name) }
+    ensures added { OnOk result
+        (Adds (found_in first.old) (found_in first.new) declared.now.name.text
+        (first_with (declaration_of declared.now) symbols)) }
 {
     let meaning = Meaning {
         home: declared.home,
@@ -78,7 +83,12 @@ fn note(
 }
 
 impl Names {
-    /// The names of these declarations.
+    /// The names of these declarations, in their order. A name that is declared again keeps what
+    /// its first declaration says.
+    ///
+    /// # Errors
+    ///
+    /// Want of memory. The declarations are then given back.
     pub fn new(alloc: Global, declared: Vec<Declared>) -> Result<Names, Memory>
         ensures { IfOk result (λ names. names ≡ map declaration_of declared.items) }
     {
@@ -97,7 +107,7 @@ impl Names {
         })
     }
 
-    /// What the name means, if it is declared.
+    /// What the name means, if it is declared. Whether a module sees it is not said.
     pub fn meaning(&self, word: &[u8]) -> Option<Meaning>
         ensures { option_map meaning_of result ≡ meaning_in self.now word.now }
     {
@@ -111,6 +121,7 @@ impl Names {
         self.again
     }
 
+    /// The declarations in their order, those before the text first.
     pub fn declared(&self) -> &[Declared]
         ensures { map declaration_of result.now ≡ self.now }
     {

@@ -26,7 +26,9 @@ fn flat_fault(
     rules: &[Place],
     length: u32,
 ) -> Option<Refusal>
-    ensures { result ≡ a_flat_fault names.now (map import_of imports.now) too_strong.now initials.now rules.now length }
+    ensures { result
+        ≡ a_flat_fault names.now (map import_of imports.now) too_strong.now initials.now rules.now
+        length }
 {
     let declared = lesser(names.again(), unknown_module(names, imports));
     let stated = lesser(
@@ -37,8 +39,12 @@ fn flat_fault(
     lesser(lesser(declared, stated), counted)
 }
 
-/// The scopes of a text whose names, classes and counts have no fault, and otherwise the first
-/// fault: by its place, and at one place by the order of the kinds.
+/// The scopes of a text whose names, classes and counts have no fault.
+///
+/// # Errors
+///
+/// `Refused` with the first fault: by its place, and at one place by the order of the kinds.
+/// `Memory` is want of memory, which may hide a fault. In both cases nothing is kept.
 pub fn scope(alloc: Global, text: &Text) -> Result<Scopes, TextFault>
     ensures faults { TellsFaults (ScopeFault text.now) result }
     ensures scopes { IfOk result (IsScopesOf text.now) }

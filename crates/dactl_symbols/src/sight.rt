@@ -4,10 +4,13 @@ ghost use Rattle.std.specs.Prelude.{◌≡◌, ◌++◌, IfOk, OnOk, map, option
 ghost use Rattle.std.specs.Option.{option_to_list};
 ghost use Rattle.std.specs.List.{filter_map};
 ghost use Rattle.dactl_meaning.specs.Declarations.{same_home, entity_symbol};
-ghost use Rattle.dactl_meaning.specs.Sight.{is_earlier as is_before, class_seen as has_class, entity_seen};
+ghost use Rattle.dactl_meaning.specs.Sight.{is_earlier as is_before, class_seen as has_class};
+ghost use Rattle.dactl_meaning.specs.Sight.{entity_seen};
 ghost use Rattle.dactl_symbols.specs.Declaring.{home_of, entity_of, declaration_of, import_of};
-ghost use Rattle.dactl_symbols.specs.Sights.{link_of, owned_of, owned_in, imported_in, has_link, AddsLink, AreLinks};
-ghost use Rattle.dactl_symbols.specs.Scoping.{told, seen_in, class_in, symbols_in};
+ghost use Rattle.dactl_symbols.specs.Sights.{link_of, owned_of, owned_in, imported_in, has_link};
+ghost use Rattle.dactl_symbols.specs.Sights.{AddsLink, AreLinks};
+ghost use Rattle.dactl_symbols.specs.Meanings.{meaning_of};
+ghost use Rattle.dactl_symbols.specs.Scoping.{told, first_seen, seen_in, class_in, symbols_in};
 
 use crate::names::{Meaning, Names};
 use crate::survey::{Declared, Entity, Home, Import};
@@ -62,8 +65,8 @@ impl Model for Scopes {
     ghost invariant = { λ s. map owned_of s.symbols.items ≡ filter_map owned_in s.names };
 }
 
-/// The class that a symbol has for a module: `own` says that it is the module's, and `imported` that
-/// the module imports the symbol's.
+/// The class that a symbol has for a module: `own` says that it is the module's, and `imported`
+/// that the module imports the symbol's.
 fn class_seen(own: bool, imported: bool, class: Class, public: Option<Class>) -> Option<Class>
     ensures { result ≡ has_class own imported class public }
 {
@@ -97,7 +100,8 @@ fn is_earlier(home: Home, owner: usize) -> bool
 
 /// What a module sees of a declared name.
 fn meaning_seen(own: bool, imported: bool, meaning: Meaning) -> Option<Seen>
-    ensures { option_map told result ≡ entity_seen own imported meaning.number (entity_of meaning.entity) }
+    ensures { option_map told result
+        ≡ entity_seen own imported meaning.number (entity_of meaning.entity) }
 {
     match meaning.entity {
         Entity::Module => None,
@@ -136,7 +140,9 @@ pub(crate) fn imported(names: &Names, import: &Import) -> Option<Home>
 }
 
 fn add_link(links: &mut BTreeSet<Link>, owner: usize, home: Option<Home>) -> Result<(), Memory>
-    ensures { OnOk result (AddsLink (map link_of links.old.keys) (map link_of links.new.keys) owner (option_map home_of home)) }
+    ensures { OnOk result
+        (AddsLink (map link_of links.old.keys) (map link_of links.new.keys) owner
+        (option_map home_of home)) }
 {
     if let Some(home) = home {
         links.insert(Link { owner, home })?;
@@ -146,7 +152,8 @@ fn add_link(links: &mut BTreeSet<Link>, owner: usize, home: Option<Home>) -> Res
 
 /// The imports that count.
 fn links(alloc: Global, names: &Names, imports: &[Import]) -> Result<BTreeSet<Link>, Memory>
-    ensures { IfOk result (λ links. AreLinks names.now (map import_of imports.now) (map link_of links.keys)) }
+    ensures { IfOk result
+        (λ links. AreLinks names.now (map import_of imports.now) (map link_of links.keys)) }
 {
     let mut links = BTreeSet::new(alloc);
     for import in imports {
@@ -169,7 +176,8 @@ fn owned_by(declared: &Declared) -> Option<Owned>
 }
 
 fn symbol_of(alloc: Global, declared: &Declared) -> Result<Option<Symbol>, Memory>
-    ensures { IfOk result (λ o. o ≡ entity_symbol declared.now.name.text (entity_of declared.now.entity)) }
+    ensures { IfOk result
+        (λ o. o ≡ entity_symbol declared.now.name.text (entity_of declared.now.entity)) }
 {
     match declared.entity {
         Entity::Symbol { class, .. } => {
@@ -202,6 +210,10 @@ fn list_owned(alloc: Global, names: &Names) -> Result<Vec<Owned>, Memory>
 
 impl Scopes {
     /// The scopes of these declarations and imports.
+    ///
+    /// # Errors
+    ///
+    /// Want of memory. The names are then given back.
     pub(crate) fn new(alloc: Global, names: Names, imports: &[Import]) -> Result<Scopes, Memory>
         ensures names { IfOk result (λ s. s.names ≡ names) }
         ensures links { IfOk result (λ s. AreLinks names (map import_of imports.now) s.links) }
@@ -228,32 +240,50 @@ impl Scopes {
         &self.names
     }
 
+    /// What the module sees of a name that means this. Imports are looked through for the names of
+    /// other modules alone.
+    pub(crate) fn seen(&self, module: usize, meaning: Meaning) -> Option<Seen>
+        ensures { option_map told result ≡ first_seen self.now «module» (meaning_of meaning) }
+    {
+        if same(meaning.home, Home::Written(module)) {
+            return meaning_seen(true, false, meaning);
+        }
+        let imported = self.gives(module, meaning.home);
+        meaning_seen(false, imported, meaning)
+    }
+
     /// What the module sees under the name. It is `None` where the module sees no symbol and no
     /// pattern of that name.
     pub fn look(&self, module: usize, name: &[u8]) -> Option<Seen>
         ensures { option_map told result ≡ seen_in self.now «module» name.now }
     {
         let meaning = self.names.meaning(name)?;
-        let own = same(meaning.home, Home::Written(module));
-        let imported = self.gives(module, meaning.home);
-        meaning_seen(own, imported, meaning)
+        self.seen(module, meaning)
     }
 
-    /// The class of a symbol for the module. It is `None` where the module doesn't see the symbol.
+    /// The class of a symbol for the module. It is `None` where the module doesn't see the symbol,
+    /// and where no symbol has that number.
     pub fn class_for(&self, module: usize, symbol: u32) -> Option<Class>
         ensures { result ≡ class_in self.now «module» symbol }
     {
         let owned = at(self.symbols.as_slice(), symbol as usize)?;
-        let own = same(owned.home, Home::Written(module));
+        if same(owned.home, Home::Written(module)) {
+            return Some(owned.class);
+        }
         let imported = self.gives(module, owned.home);
-        class_seen(own, imported, owned.class, owned.public)
+        class_seen(false, imported, owned.class, owned.public)
     }
 
-    /// The symbols of the program that the text says, in the order of their numbers.
+    /// The symbols of the program that the text says, in the order of their numbers: copies, which
+    /// the program keeps.
+    ///
+    /// # Errors
+    ///
+    /// Want of memory. The scopes stay as they are.
     pub fn symbols(&self, alloc: Global) -> Result<Items<Symbol>, Memory>
         ensures { IfOk result (λ symbols. symbols ≡ symbols_in self.now) }
     {
-        let mut symbols = Vec::new(alloc);
+        let mut symbols = Vec::with_capacity(alloc, self.symbols.len())?;
         for declared in self.names.declared() {
             push_some(&mut symbols, symbol_of(alloc, declared)?)?;
         }

@@ -2,10 +2,12 @@
 
 ghost use Rattle.std.specs.Prelude.{◌≡◌, ◌++◌, ◌∷◌, [], IfOk, OnOk, map, option_map};
 ghost use Rattle.std.specs.List.{flat_map, enumerate_from};
-ghost use Rattle.dactl_meaning.specs.Declarations.{Written, AsSymbol, built_in as a_built_in, built_in_names};
+ghost use Rattle.dactl_meaning.specs.Declarations.{Written, AsSymbol, built_in as a_built_in};
+ghost use Rattle.dactl_meaning.specs.Declarations.{built_in_names};
 ghost use Rattle.dactl_meaning.specs.ScopeFaults.{is_too_strong};
 ghost use Rattle.dactl_symbols.specs.Declaring.{entity_of, declaration_of, import_of};
-ghost use Rattle.dactl_symbols.specs.Finds.{finds_of, joined, joined_all, byte_of, strong_bytes, rule_bytes, item_finds, module_finds, text_finds};
+ghost use Rattle.dactl_symbols.specs.Finds.{finds_of, joined, joined_all, byte_of, strong_bytes};
+ghost use Rattle.dactl_symbols.specs.Finds.{rule_bytes, item_finds, module_finds, text_finds};
 
 use dactl_base::refusal::Place;
 use dactl_meaning::tree::{Group, Item, Module, Name, RuleTree, Text};
@@ -90,7 +92,9 @@ fn built_in(
     word: &[u8],
     entity: Entity,
 ) -> Result<(), Memory>
-    ensures { OnOk result (map declaration_of declared.new.items ≡ map declaration_of declared.old.items ++ a_built_in word.now (entity_of entity) ∷ []) }
+    ensures { OnOk result
+        (map declaration_of declared.new.items ≡ map declaration_of declared.old.items
+        ++ a_built_in word.now (entity_of entity) ∷ []) }
 {
     let name = Name {
         text: Items::from_slice(alloc, word)?,
@@ -139,7 +143,9 @@ fn list_imports(
     owner: usize,
     names: &[Name],
 ) -> Result<(), Memory>
-    ensures { OnOk result (map import_of imports.new.items ≡ map import_of imports.old.items ++ map (λ n. record { owner = owner; name = n }) names.now) }
+    ensures { OnOk result
+        (map import_of imports.new.items ≡ map import_of imports.old.items
+        ++ map (λ n. record { owner = owner; name = n }) names.now) }
 {
     for name in names {
         let name = copy(alloc, name)?;
@@ -156,7 +162,10 @@ fn list_symbols(
     public: Option<Class>,
     names: &[Name],
 ) -> Result<(), Memory>
-    ensures { OnOk result (map declaration_of declared.new.items ≡ map declaration_of declared.old.items ++ map (λ n. record { name = n; home = Written owner; entity = AsSymbol class public }) names.now) }
+    ensures { OnOk result
+        (map declaration_of declared.new.items ≡ map declaration_of declared.old.items
+        ++ map (λ n. record { name = n; home = Written owner; entity = AsSymbol class public })
+        names.now) }
 {
     for name in names {
         let name = copy(alloc, name)?;
@@ -174,7 +183,8 @@ fn list_too_strong(
     class: Class,
     public: Option<(Class, Place)>,
 ) -> Result<(), Memory>
-    ensures { OnOk result (map byte_of places.new.items ≡ map byte_of places.old.items ++ strong_bytes class public) }
+    ensures { OnOk result
+        (map byte_of places.new.items ≡ map byte_of places.old.items ++ strong_bytes class public) }
 {
     if let Some((importers, place)) = public {
         if exceeds(class, importers) {
@@ -185,7 +195,9 @@ fn list_too_strong(
 }
 
 fn list_rules(places: &mut Vec<Place>, rules: &[RuleTree]) -> Result<(), Memory>
-    ensures { OnOk result (map byte_of places.new.items ≡ map byte_of places.old.items ++ map (λ r. r.place.byte) rules.now) }
+    ensures { OnOk result
+        (map byte_of places.new.items ≡ map byte_of places.old.items
+        ++ map (λ r. r.place.byte) rules.now) }
 {
     for rule in rules {
         places.push(rule.place)?;
@@ -194,7 +206,8 @@ fn list_rules(places: &mut Vec<Place>, rules: &[RuleTree]) -> Result<(), Memory>
 }
 
 fn list_groups(places: &mut Vec<Place>, groups: &[Group]) -> Result<(), Memory>
-    ensures { OnOk result (map byte_of places.new.items ≡ map byte_of places.old.items ++ rule_bytes groups.now) }
+    ensures { OnOk result
+        (map byte_of places.new.items ≡ map byte_of places.old.items ++ rule_bytes groups.now) }
 {
     for group in groups {
         list_rules(places, group.rules.as_slice())?;
@@ -219,7 +232,8 @@ impl Survey {
         number: usize,
         item: &Item,
     ) -> Result<(), Memory>
-        ensures { OnOk result (finds_of self.new ≡ joined (finds_of self.old) (item_finds owner (number, item.now))) }
+        ensures { OnOk result
+            (finds_of self.new ≡ joined (finds_of self.old) (item_finds owner (number, item.now))) }
     {
         match item {
             Item::Imports { names } => {
@@ -264,7 +278,10 @@ impl Survey {
     }
 
     fn add_items(&mut self, alloc: Global, owner: usize, items: &[Item]) -> Result<(), Memory>
-        ensures { OnOk result (finds_of self.new ≡ joined (finds_of self.old) (joined_all (item_finds owner) (enumerate_from 0 items.now))) }
+        ensures { OnOk result
+            (finds_of self.new
+            ≡ joined (finds_of self.old)
+            (joined_all (item_finds owner) (enumerate_from 0 items.now))) }
     {
         for (number, item) in items.iter().enumerate() {
             self.add_item(alloc, owner, number, item)?;
@@ -273,7 +290,8 @@ impl Survey {
     }
 
     fn add_module(&mut self, alloc: Global, owner: usize, tree: &Module) -> Result<(), Memory>
-        ensures { OnOk result (finds_of self.new ≡ joined (finds_of self.old) (module_finds (owner, tree.now))) }
+        ensures { OnOk result
+            (finds_of self.new ≡ joined (finds_of self.old) (module_finds (owner, tree.now))) }
     {
         let name = copy(alloc, &tree.name)?;
         self.declared.push(Declared {
@@ -286,7 +304,11 @@ impl Survey {
     }
 }
 
-/// Looks through a text.
+/// Looks through a text, once, and copies the names that it declares and imports.
+///
+/// # Errors
+///
+/// Want of memory.
 pub fn look_through(alloc: Global, text: &Text) -> Result<Survey, Memory>
     ensures { IfOk result (λ survey. finds_of survey ≡ text_finds text.now) }
 {

@@ -2,9 +2,12 @@
 
 ghost use Rattle.std.specs.Prelude.{◌≡◌};
 ghost use Rattle.std.specs.List.{flat_map, enumerate_from};
-ghost use Rattle.dactl_meaning.specs.Uses.{pattern_uses, term_uses, part_uses, rule_uses, item_uses, uses};
+ghost use Rattle.dactl_meaning.specs.Uses.{pattern_uses, term_uses, part_uses, rule_uses};
+ghost use Rattle.dactl_meaning.specs.Uses.{item_uses, uses};
 ghost use Rattle.dactl_symbols.specs.Least.{least_by};
-ghost use Rattle.dactl_symbols.specs.UseFaults.{is_known as is_known_in, use_fault as the_fault, use_at, node_uses, arg_uses};
+ghost use Rattle.dactl_symbols.specs.Declaring.{entity_of};
+ghost use Rattle.dactl_symbols.specs.UseFaults.{is_known_entity, use_at, node_uses, arg_uses};
+ghost use Rattle.dactl_symbols.specs.UseFaults.{use_fault as the_fault};
 
 use crate::least::lesser;
 use crate::sight::Scopes;
@@ -14,33 +17,39 @@ use dactl_meaning::tree::{
     ArgTree, Group, Item, Name, NodeTree, Part, PatternTree, RuleTree, Sign, TermTree, Text,
 };
 
-/// Whether the name is of a symbol or a pattern, and of no pattern where it is given arguments.
-fn is_known(scopes: &Scopes, name: &Name, given: bool) -> bool
-    ensures { result ≡ is_known_in scopes.now.names (use_at name.now given) }
+/// Whether a name of this entity may be used: one of a symbol, or of a pattern where it is given no
+/// arguments.
+fn is_known(entity: Entity, given: bool) -> bool
+    ensures { result ≡ is_known_entity (entity_of entity) given }
 {
-    match scopes.names().meaning(name.text.as_slice()) {
-        None => false,
-        Some(meaning) => match meaning.entity {
-            Entity::Module => false,
-            Entity::Symbol { .. } => true,
-            Entity::Pattern { .. } => !given,
-        },
+    match entity {
+        Entity::Module => false,
+        Entity::Symbol { .. } => true,
+        Entity::Pattern { .. } => !given,
     }
 }
 
+/// The fault of a use of the name, which is looked up once.
 fn use_fault(scopes: &Scopes, owner: usize, name: &Name, given: bool) -> Option<Refusal>
     ensures { result ≡ the_fault scopes.now owner (use_at name.now given) }
 {
-    let kind = if !is_known(scopes, name, given) {
-        Kind::UnknownName
-    } else if scopes.look(owner, name.text.as_slice()).is_none() {
-        Kind::NotVisible
-    } else {
-        return None;
+    let place = name.place;
+    let unknown = Some(Refusal {
+        kind: Kind::UnknownName,
+        place,
+    });
+    let Some(meaning) = scopes.names().meaning(name.text.as_slice()) else {
+        return unknown;
     };
+    if !is_known(meaning.entity, given) {
+        return unknown;
+    }
+    if scopes.seen(owner, meaning).is_some() {
+        return None;
+    }
     Some(Refusal {
-        kind,
-        place: name.place,
+        kind: Kind::NotVisible,
+        place,
     })
 }
 
@@ -80,7 +89,8 @@ fn patterns(scopes: &Scopes, owner: usize, trees: &[PatternTree]) -> Option<Refu
 
 #[cycle(pattern_faults)]
 fn links(scopes: &Scopes, owner: usize, rest: &[(Sign, PatternTree)]) -> Option<Refusal>
-    ensures { result ≡ least_by (the_fault scopes.now owner) (flat_map (λ l. pattern_uses l.1) rest.now) }
+    ensures { result
+        ≡ least_by (the_fault scopes.now owner) (flat_map (λ l. pattern_uses l.1) rest.now) }
 {
     let mut least = None;
     for link in rest {
@@ -162,7 +172,9 @@ fn rules(scopes: &Scopes, owner: usize, rules: &[RuleTree]) -> Option<Refusal>
 }
 
 fn groups(scopes: &Scopes, owner: usize, groups: &[Group]) -> Option<Refusal>
-    ensures { result ≡ least_by (the_fault scopes.now owner) (flat_map (λ g. flat_map rule_uses g.rules) groups.now) }
+    ensures { result
+        ≡ least_by (the_fault scopes.now owner)
+        (flat_map (λ g. flat_map rule_uses g.rules) groups.now) }
 {
     let mut least = None;
     for group in groups {
@@ -202,7 +214,7 @@ fn items(scopes: &Scopes, owner: usize, items: &[Item]) -> Option<Refusal>
     least
 }
 
-/// The first fault of the names that a text uses.
+/// The first fault of the names that a text uses, by its place. Each use is looked up once.
 pub fn first_use_fault(scopes: &Scopes, text: &Text) -> Option<Refusal>
     ensures { result ≡ least_by (λ u. the_fault scopes.now u.0 u.1) (uses text.now) }
 {
