@@ -15,8 +15,8 @@ const SHORT: usize = 7;
 
 /// A map from names, in which each name keeps the first value that it got.
 ///
-/// The names are kept by order: a text chooses its names, and could choose them for a hash. A name of
-/// at most seven bytes is kept as a number, which compares in one step.
+/// The names are kept by order: a text chooses its names, and could choose them for a hash. A name
+/// of at most seven bytes is kept as a number, which compares in one step.
 #[derive(Drop)]
 pub struct NameMap<V> {
     short: BTreeMap<u64, V>,
