@@ -24,7 +24,8 @@ fn comma_upper<'a>(
     text: &[u8],
     tokens: &'a [Terminal],
 ) -> Result<(Name, &'a [Terminal]), ReadError>
-    ensures { Gives (λ x. (x.0, toks text.now x.1.now)) result (spec.comma_upper_at (toks text.now tokens.now)) }
+    ensures { Gives (λ x. (x.0, toks text.now x.1.now)) result
+        (spec.comma_upper_at (toks text.now tokens.now)) }
 {
     let (_, rest) = one(text, tokens, Sort::Comma)?;
     upper(alloc, text, rest)
@@ -36,7 +37,8 @@ fn names<'a>(
     text: &[u8],
     tokens: &'a [Terminal],
 ) -> Result<(Items<Name>, &'a [Terminal]), ReadError>
-    ensures { Gives (λ x. (x.0, toks text.now x.1.now)) result (spec.names_at (toks text.now tokens.now)) }
+    ensures { Gives (λ x. (x.0, toks text.now x.1.now)) result
+        (spec.names_at (toks text.now tokens.now)) }
 {
     let (first, after) = upper(alloc, text, tokens)?;
     let mut found = Items::new(alloc);
@@ -56,7 +58,8 @@ fn imports<'a>(
     text: &[u8],
     tokens: &'a [Terminal],
 ) -> Result<(Item, &'a [Terminal]), ReadError>
-    ensures { Gives (λ x. (x.0, toks text.now x.1.now)) result (spec.imports_at (toks text.now tokens.now)) }
+    ensures { Gives (λ x. (x.0, toks text.now x.1.now)) result
+        (spec.imports_at (toks text.now tokens.now)) }
 {
     let (_, rest) = one(text, tokens, Sort::Imports)?;
     let (names, rest) = names(alloc, text, rest)?;
@@ -88,7 +91,8 @@ fn class<'a>(
     text: &[u8],
     tokens: &'a [Terminal],
 ) -> Result<((Class, Place), &'a [Terminal]), ReadError>
-    ensures { Gives (λ x. ((x.0.0, x.0.1), toks text.now x.1.now)) result (spec.class_reads (toks text.now tokens.now)) }
+    ensures { Gives (λ x. ((x.0.0, x.0.1), toks text.now x.1.now)) result
+        (spec.class_reads (toks text.now tokens.now)) }
 {
     match tokens {
         [] => Err(ReadError::Fault(Fault::Unexpected { left: 0 })),
@@ -107,7 +111,8 @@ fn public_class<'a>(
     text: &[u8],
     tokens: &'a [Terminal],
 ) -> Result<(Option<(Class, Place)>, &'a [Terminal]), ReadError>
-    ensures { Gives (λ x. (x.0, toks text.now x.1.now)) result (spec.public_class_at (toks text.now tokens.now)) }
+    ensures { Gives (λ x. (x.0, toks text.now x.1.now)) result
+        (spec.public_class_at (toks text.now tokens.now)) }
 {
     if next_is(tokens, Sort::Public) {
         let (_, rest) = one(text, tokens, Sort::Public)?;
@@ -124,7 +129,8 @@ fn symbols<'a>(
     text: &[u8],
     tokens: &'a [Terminal],
 ) -> Result<(Item, &'a [Terminal]), ReadError>
-    ensures { Gives (λ x. (x.0, toks text.now x.1.now)) result (spec.symbols_at (toks text.now tokens.now)) }
+    ensures { Gives (λ x. (x.0, toks text.now x.1.now)) result
+        (spec.symbols_at (toks text.now tokens.now)) }
 {
     let (_, rest) = one(text, tokens, Sort::Symbol)?;
     let ((class, _), rest) = class(text, rest)?;
@@ -143,7 +149,8 @@ fn symbols<'a>(
 
 #[tactic(auto, unfolding(crate::specs::Reading::public_at))]
 fn public<'a>(text: &[u8], tokens: &'a [Terminal]) -> Result<(bool, &'a [Terminal]), ReadError>
-    ensures { Gives (λ x. (x.0, toks text.now x.1.now)) result (spec.public_at (toks text.now tokens.now)) }
+    ensures { Gives (λ x. (x.0, toks text.now x.1.now)) result
+        (spec.public_at (toks text.now tokens.now)) }
 {
     if next_is(tokens, Sort::Public) {
         let (_, rest) = one(text, tokens, Sort::Public)?;
@@ -160,7 +167,8 @@ fn named<'a>(
     tokens: &'a [Terminal],
     room: u32,
 ) -> Result<(Item, &'a [Terminal]), ReadError>
-    ensures { Gives (λ x. (x.0, toks text.now x.1.now)) result (spec.named_at room (toks text.now tokens.now)) }
+    ensures { Gives (λ x. (x.0, toks text.now x.1.now)) result
+        (spec.named_at room (toks text.now tokens.now)) }
 {
     let (_, rest) = one(text, tokens, Sort::Pattern)?;
     let (public, rest) = public(text, rest)?;
@@ -185,7 +193,8 @@ fn rules<'a>(
     tokens: &'a [Terminal],
     room: u32,
 ) -> Result<(Item, &'a [Terminal]), ReadError>
-    ensures { Gives (λ x. (x.0, toks text.now x.1.now)) result (spec.rules_at room (toks text.now tokens.now)) }
+    ensures { Gives (λ x. (x.0, toks text.now x.1.now)) result
+        (spec.rules_at room (toks text.now tokens.now)) }
 {
     let (_, rest) = one(text, tokens, Sort::Rule)?;
     let (groups, rest) = groups(alloc, text, rest, room)?;
@@ -199,7 +208,8 @@ fn comma_term<'a>(
     tokens: &'a [Terminal],
     room: u32,
 ) -> Result<(TermTree, &'a [Terminal]), ReadError>
-    ensures { Gives (λ x. (x.0, toks text.now x.1.now)) result (spec.comma_term_at room (toks text.now tokens.now)) }
+    ensures { Gives (λ x. (x.0, toks text.now x.1.now)) result
+        (spec.comma_term_at room (toks text.now tokens.now)) }
 {
     let (_, rest) = one(text, tokens, Sort::Comma)?;
     term(alloc, text, rest, room)
@@ -212,7 +222,8 @@ fn terms<'a>(
     tokens: &'a [Terminal],
     room: u32,
 ) -> Result<(Items<TermTree>, &'a [Terminal]), ReadError>
-    ensures { Gives (λ x. (x.0, toks text.now x.1.now)) result (spec.terms_at room (toks text.now tokens.now)) }
+    ensures { Gives (λ x. (x.0, toks text.now x.1.now)) result
+        (spec.terms_at room (toks text.now tokens.now)) }
 {
     let (first, after) = term(alloc, text, tokens, room)?;
     let mut found = Items::new(alloc);
@@ -233,7 +244,8 @@ fn initial<'a>(
     tokens: &'a [Terminal],
     room: u32,
 ) -> Result<(Item, &'a [Terminal]), ReadError>
-    ensures { Gives (λ x. (x.0, toks text.now x.1.now)) result (spec.initial_at room (toks text.now tokens.now)) }
+    ensures { Gives (λ x. (x.0, toks text.now x.1.now)) result
+        (spec.initial_at room (toks text.now tokens.now)) }
 {
     let (token, rest) = one(text, tokens, Sort::Initial)?;
     let (_, rest) = one(text, rest, Sort::Rewrites)?;
@@ -248,6 +260,12 @@ fn initial<'a>(
     ))
 }
 
+/// Reads an item of a module, with at most so many brackets open.
+///
+/// # Errors
+///
+/// `Fault` with `Unexpected` at the first token with which no item goes on, or with `TooDeep` at
+/// the first bracket past `room`, and `Memory` where memory is wanting.
 #[tactic(auto, unfolding(crate::specs::Reading::item_at))]
 pub fn item<'a>(
     alloc: Global,
@@ -255,7 +273,8 @@ pub fn item<'a>(
     tokens: &'a [Terminal],
     room: u32,
 ) -> Result<(Item, &'a [Terminal]), ReadError>
-    ensures { Gives (λ x. (x.0, toks text.now x.1.now)) result (spec.item_at room (toks text.now tokens.now)) }
+    ensures { Gives (λ x. (x.0, toks text.now x.1.now)) result
+        (spec.item_at room (toks text.now tokens.now)) }
 {
     if next_is(tokens, Sort::Imports) {
         return imports(alloc, text, tokens);

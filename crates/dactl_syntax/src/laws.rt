@@ -1,5 +1,6 @@
 //! Laws about the definitions alone: each function's contract is its law.
-ghost use Rattle.dactl_syntax.specs.Laws.{HasOneTree, TreesAreSpelled, TreesAreInOrder, CanonicalReads};
+ghost use Rattle.dactl_syntax.specs.Laws.{HasOneTree, TreesAreSpelled, TreesAreInOrder};
+ghost use Rattle.dactl_syntax.specs.Laws.{CanonicalReads};
 
 /// No bytes read two trees.
 pub fn one_tree()

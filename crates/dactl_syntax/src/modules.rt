@@ -35,7 +35,8 @@ fn items<'a>(
     tokens: &'a [Terminal],
     room: u32,
 ) -> Result<(Items<Item>, &'a [Terminal]), ReadError>
-    ensures { Gives (λ x. (x.0, toks text.now x.1.now)) result (spec.items_at room (toks text.now tokens.now)) }
+    ensures { Gives (λ x. (x.0, toks text.now x.1.now)) result
+        (spec.items_at room (toks text.now tokens.now)) }
 {
     let mut found = Items::new(alloc);
     let mut rest = tokens;
@@ -59,7 +60,8 @@ fn same_name<'a>(
     name: &Name,
     tokens: &'a [Terminal],
 ) -> Result<(Terminal, &'a [Terminal]), ReadError>
-    ensures { Gives (λ x. (seen text.now x.0, toks text.now x.1.now)) result (read_one (is_name name.now) (toks text.now tokens.now)) }
+    ensures { Gives (λ x. (seen text.now x.0, toks text.now x.1.now)) result
+        (read_one (is_name name.now) (toks text.now tokens.now)) }
 {
     match tokens {
         [] => Err(ReadError::Fault(Fault::Unexpected { left: 0 })),
@@ -80,7 +82,8 @@ fn module<'a>(
     tokens: &'a [Terminal],
     room: u32,
 ) -> Result<(Module, &'a [Terminal]), ReadError>
-    ensures { Gives (λ x. (x.0, toks text.now x.1.now)) result (spec.module_at room (toks text.now tokens.now)) }
+    ensures { Gives (λ x. (x.0, toks text.now x.1.now)) result
+        (spec.module_at room (toks text.now tokens.now)) }
 {
     let (_, rest) = one(text, tokens, Sort::Module)?;
     let (name, rest) = upper(alloc, text, rest)?;
@@ -92,6 +95,12 @@ fn module<'a>(
     Ok((Module { name, items }, rest))
 }
 
+/// Reads one module or more, with at most so many brackets open.
+///
+/// # Errors
+///
+/// `Fault` with `Unexpected` at the first token with which no module goes on, or with `TooDeep` at
+/// the first bracket past `room`, and `Memory` where memory is wanting.
 #[tactic(auto, unfolding(crate::specs::Reading::modules_at))]
 pub fn modules<'a>(
     alloc: Global,
@@ -99,7 +108,8 @@ pub fn modules<'a>(
     tokens: &'a [Terminal],
     room: u32,
 ) -> Result<(Items<Module>, &'a [Terminal]), ReadError>
-    ensures { Gives (λ x. (x.0, toks text.now x.1.now)) result (spec.modules_at room (toks text.now tokens.now)) }
+    ensures { Gives (λ x. (x.0, toks text.now x.1.now)) result
+        (spec.modules_at room (toks text.now tokens.now)) }
 {
     let (first, after) = module(alloc, text, tokens, room)?;
     let mut found = Items::new(alloc);

@@ -4,7 +4,8 @@ ghost use Rattle.std.specs.Prelude.{◌≡◌, ℕ, List, IfOk};
 ghost use Rattle.dactl_syntax.specs.Sort.{is_sign, starts_piece};
 ghost use Rattle.dactl_syntax.specs.Productions.{chain_at};
 ghost use Rattle.dactl_grammar.specs.Reader.{head_is};
-ghost use Rattle.dactl_syntax.specs.Reading.{by, operator_at, base_at, piece_reads, pattern_at, squares_at, rounds_at, pieces_at, links_at, link_at};
+ghost use Rattle.dactl_syntax.specs.Reading.{by, operator_at, base_at, piece_reads, pattern_at};
+ghost use Rattle.dactl_syntax.specs.Reading.{squares_at, rounds_at, pieces_at, links_at, link_at};
 ghost use Rattle.dactl_grammar.specs.Giving.{Gives};
 ghost use Rattle.dactl_syntax.specs.Seen.{toks};
 
@@ -15,6 +16,7 @@ use dactl_meaning::tree::{PatternTree, Sign};
 use sqlite_items::{Boxed, Items};
 use std::alloc::{AllocError, Global};
 
+/// Whether a token comes next with which a piece of a pattern begins.
 pub fn starts_piece(tokens: &[Terminal]) -> bool
     ensures { (text : List ℕ) → result ≡ head_is (by starts_piece) (toks text tokens.now) }
 {
@@ -45,7 +47,8 @@ fn is_sign(tokens: &[Terminal]) -> bool
 
 #[tactic(auto, unfolding(crate::specs::Reading::operator_at))]
 fn operator<'a>(text: &[u8], tokens: &'a [Terminal]) -> Result<(Sign, &'a [Terminal]), ReadError>
-    ensures { Gives (λ x. (x.0, toks text.now x.1.now)) result (operator_at (toks text.now tokens.now)) }
+    ensures { Gives (λ x. (x.0, toks text.now x.1.now)) result
+        (operator_at (toks text.now tokens.now)) }
 {
     if next_is(tokens, Sort::Plus) {
         let (_, rest) = one(text, tokens, Sort::Plus)?;
@@ -64,7 +67,8 @@ fn base<'a>(
     tokens: &'a [Terminal],
     room: u32,
 ) -> Result<(PatternTree, &'a [Terminal]), ReadError>
-    ensures { Gives (λ x. (x.0, toks text.now x.1.now)) result (base_at room (toks text.now tokens.now)) }
+    ensures { Gives (λ x. (x.0, toks text.now x.1.now)) result
+        (base_at room (toks text.now tokens.now)) }
 {
     if next_is(tokens, Sort::Any) {
         let (_, rest) = one(text, tokens, Sort::Any)?;
@@ -114,7 +118,8 @@ fn piece<'a>(
     tokens: &'a [Terminal],
     room: u32,
 ) -> Result<(PatternTree, &'a [Terminal]), ReadError>
-    ensures { Gives (λ x. (x.0, toks text.now x.1.now)) result (piece_reads room (toks text.now tokens.now)) }
+    ensures { Gives (λ x. (x.0, toks text.now x.1.now)) result
+        (piece_reads room (toks text.now tokens.now)) }
 {
     if !next_is(tokens, Sort::Lower) {
         return base(alloc, text, tokens, room);
@@ -143,7 +148,8 @@ fn squares<'a>(
     tokens: &'a [Terminal],
     room: u32,
 ) -> Result<(Items<PatternTree>, &'a [Terminal]), ReadError>
-    ensures { Gives (λ x. (x.0, toks text.now x.1.now)) result (squares_at room (toks text.now tokens.now)) }
+    ensures { Gives (λ x. (x.0, toks text.now x.1.now)) result
+        (squares_at room (toks text.now tokens.now)) }
 {
     let (_, rest) = one(text, tokens, Sort::Open)?;
     if room == 0 {
@@ -162,7 +168,8 @@ fn rounds<'a>(
     tokens: &'a [Terminal],
     room: u32,
 ) -> Result<(PatternTree, &'a [Terminal]), ReadError>
-    ensures { Gives (λ x. (x.0, toks text.now x.1.now)) result (rounds_at room (toks text.now tokens.now)) }
+    ensures { Gives (λ x. (x.0, toks text.now x.1.now)) result
+        (rounds_at room (toks text.now tokens.now)) }
 {
     let (_, rest) = one(text, tokens, Sort::Left)?;
     if room == 0 {
@@ -181,7 +188,8 @@ fn pieces<'a>(
     tokens: &'a [Terminal],
     room: u32,
 ) -> Result<(Items<PatternTree>, &'a [Terminal]), ReadError>
-    ensures { Gives (λ x. (x.0, toks text.now x.1.now)) result (pieces_at room (toks text.now tokens.now)) }
+    ensures { Gives (λ x. (x.0, toks text.now x.1.now)) result
+        (pieces_at room (toks text.now tokens.now)) }
 {
     let mut found = Items::new(alloc);
     let mut rest = tokens;
@@ -201,7 +209,8 @@ fn link<'a>(
     tokens: &'a [Terminal],
     room: u32,
 ) -> Result<((Sign, PatternTree), &'a [Terminal]), ReadError>
-    ensures { Gives (λ x. ((x.0.0, x.0.1), toks text.now x.1.now)) result (link_at room (toks text.now tokens.now)) }
+    ensures { Gives (λ x. ((x.0.0, x.0.1), toks text.now x.1.now)) result
+        (link_at room (toks text.now tokens.now)) }
 {
     let (sign, rest) = operator(text, tokens)?;
     let (piece, rest) = piece(alloc, text, rest, room)?;
@@ -216,7 +225,8 @@ fn links<'a>(
     tokens: &'a [Terminal],
     room: u32,
 ) -> Result<(Items<(Sign, PatternTree)>, &'a [Terminal]), ReadError>
-    ensures { Gives (λ x. (x.0, toks text.now x.1.now)) result (links_at room (toks text.now tokens.now)) }
+    ensures { Gives (λ x. (x.0, toks text.now x.1.now)) result
+        (links_at room (toks text.now tokens.now)) }
 {
     let mut found = Items::new(alloc);
     let mut rest = tokens;
@@ -246,6 +256,11 @@ fn chain(
 }
 
 /// Reads a pattern, with at most so many brackets open.
+///
+/// # Errors
+///
+/// `Fault` with `Unexpected` at the first token with which no pattern goes on, or with `TooDeep`
+/// at the first bracket past `room`, and `Memory` where memory is wanting.
 #[tactic(auto, unfolding(crate::specs::Reading::pattern_at, crate::specs::Reading::piece_reads, crate::specs::Reading::links_at, crate::specs::Reading::link_at))]
 #[cycle(patterns)]
 pub fn pattern<'a>(
@@ -254,7 +269,8 @@ pub fn pattern<'a>(
     tokens: &'a [Terminal],
     room: u32,
 ) -> Result<(PatternTree, &'a [Terminal]), ReadError>
-    ensures { Gives (λ x. (x.0, toks text.now x.1.now)) result (pattern_at room (toks text.now tokens.now)) }
+    ensures { Gives (λ x. (x.0, toks text.now x.1.now)) result
+        (pattern_at room (toks text.now tokens.now)) }
 {
     let (first, rest) = piece(alloc, text, tokens, room)?;
     let (more, rest) = links(alloc, text, rest, room)?;

@@ -36,7 +36,8 @@ fn part<'a>(
     tokens: &'a [Terminal],
     room: u32,
 ) -> Result<(Part, &'a [Terminal]), ReadError>
-    ensures { Gives (λ x. (x.0, toks text.now x.1.now)) result (spec.part_at room (toks text.now tokens.now)) }
+    ensures { Gives (λ x. (x.0, toks text.now x.1.now)) result
+        (spec.part_at room (toks text.now tokens.now)) }
 {
     if redirects(tokens) {
         let (left, rest) = lower(alloc, text, tokens)?;
@@ -56,7 +57,8 @@ fn plain<'a>(
     tokens: &'a [Terminal],
     room: u32,
 ) -> Result<(Part, &'a [Terminal]), ReadError>
-    ensures { Gives (λ x. (x.0, toks text.now x.1.now)) result (spec.plain_at room (toks text.now tokens.now)) }
+    ensures { Gives (λ x. (x.0, toks text.now x.1.now)) result
+        (spec.plain_at room (toks text.now tokens.now)) }
 {
     let (term, rest) = term(alloc, text, tokens, room)?;
     Ok((Part::Term { term }, rest))
@@ -69,7 +71,8 @@ fn comma_part<'a>(
     tokens: &'a [Terminal],
     room: u32,
 ) -> Result<(Part, &'a [Terminal]), ReadError>
-    ensures { Gives (λ x. (x.0, toks text.now x.1.now)) result (spec.comma_part_at room (toks text.now tokens.now)) }
+    ensures { Gives (λ x. (x.0, toks text.now x.1.now)) result
+        (spec.comma_part_at room (toks text.now tokens.now)) }
 {
     let (_, rest) = one(text, tokens, Sort::Comma)?;
     part(alloc, text, rest, room)
@@ -82,7 +85,8 @@ fn plain_parts<'a>(
     tokens: &'a [Terminal],
     room: u32,
 ) -> Result<(Items<Part>, &'a [Terminal]), ReadError>
-    ensures { Gives (λ x. (x.0, toks text.now x.1.now)) result (spec.plain_parts_at room (toks text.now tokens.now)) }
+    ensures { Gives (λ x. (x.0, toks text.now x.1.now)) result
+        (spec.plain_parts_at room (toks text.now tokens.now)) }
 {
     let (first, after) = plain(alloc, text, tokens, room)?;
     let mut found = Items::new(alloc);
@@ -103,7 +107,8 @@ fn parts<'a>(
     tokens: &'a [Terminal],
     room: u32,
 ) -> Result<(Items<Part>, &'a [Terminal]), ReadError>
-    ensures { Gives (λ x. (x.0, toks text.now x.1.now)) result (spec.parts_at room (toks text.now tokens.now)) }
+    ensures { Gives (λ x. (x.0, toks text.now x.1.now)) result
+        (spec.parts_at room (toks text.now tokens.now)) }
 {
     let (first, after) = part(alloc, text, tokens, room)?;
     let mut found = Items::new(alloc);
@@ -125,7 +130,8 @@ fn right_side<'a>(
     tokens: &'a [Terminal],
     room: u32,
 ) -> Result<((bool, Items<Part>), &'a [Terminal]), ReadError>
-    ensures { Gives (λ x. ((x.0.0, x.0.1), toks text.now x.1.now)) result (spec.right_side_at room (toks text.now tokens.now)) }
+    ensures { Gives (λ x. ((x.0.0, x.0.1), toks text.now x.1.now)) result
+        (spec.right_side_at room (toks text.now tokens.now)) }
 {
     if next_is(tokens, Sort::Rewrites) {
         let (_, rest) = one(text, tokens, Sort::Rewrites)?;
@@ -155,7 +161,8 @@ fn rule<'a>(
     tokens: &'a [Terminal],
     room: u32,
 ) -> Result<(RuleTree, &'a [Terminal]), ReadError>
-    ensures { Gives (λ x. (x.0, toks text.now x.1.now)) result (spec.rule_at room (toks text.now tokens.now)) }
+    ensures { Gives (λ x. (x.0, toks text.now x.1.now)) result
+        (spec.rule_at room (toks text.now tokens.now)) }
 {
     let byte = first_byte(tokens);
     let (pattern, rest) = pattern(alloc, text, tokens, room)?;
@@ -178,7 +185,8 @@ fn bar_rule<'a>(
     tokens: &'a [Terminal],
     room: u32,
 ) -> Result<(RuleTree, &'a [Terminal]), ReadError>
-    ensures { Gives (λ x. (x.0, toks text.now x.1.now)) result (spec.bar_rule_at room (toks text.now tokens.now)) }
+    ensures { Gives (λ x. (x.0, toks text.now x.1.now)) result
+        (spec.bar_rule_at room (toks text.now tokens.now)) }
 {
     let (_, rest) = one(text, tokens, Sort::Bar)?;
     rule(alloc, text, rest, room)
@@ -191,7 +199,8 @@ fn rule_list<'a>(
     tokens: &'a [Terminal],
     room: u32,
 ) -> Result<(Items<RuleTree>, &'a [Terminal]), ReadError>
-    ensures { Gives (λ x. (x.0, toks text.now x.1.now)) result (spec.rule_list_at room (toks text.now tokens.now)) }
+    ensures { Gives (λ x. (x.0, toks text.now x.1.now)) result
+        (spec.rule_list_at room (toks text.now tokens.now)) }
 {
     let (first, after) = rule(alloc, text, tokens, room)?;
     let mut found = Items::new(alloc);
@@ -212,13 +221,20 @@ fn group<'a>(
     tokens: &'a [Terminal],
     room: u32,
 ) -> Result<(Group, &'a [Terminal]), ReadError>
-    ensures { Gives (λ x. (x.0, toks text.now x.1.now)) result (spec.group_at room (toks text.now tokens.now)) }
+    ensures { Gives (λ x. (x.0, toks text.now x.1.now)) result
+        (spec.group_at room (toks text.now tokens.now)) }
 {
     let (rules, rest) = rule_list(alloc, text, tokens, room)?;
     let (_, rest) = one(text, rest, Sort::Semicolon)?;
     Ok((Group { rules }, rest))
 }
 
+/// Reads one group of rules or more, with at most so many brackets open.
+///
+/// # Errors
+///
+/// `Fault` with `Unexpected` at the first token with which no group goes on, or with `TooDeep` at
+/// the first bracket past `room`, and `Memory` where memory is wanting.
 #[tactic(auto, unfolding(crate::specs::Reading::groups_at))]
 pub fn groups<'a>(
     alloc: Global,
@@ -226,7 +242,8 @@ pub fn groups<'a>(
     tokens: &'a [Terminal],
     room: u32,
 ) -> Result<(Items<Group>, &'a [Terminal]), ReadError>
-    ensures { Gives (λ x. (x.0, toks text.now x.1.now)) result (spec.groups_at room (toks text.now tokens.now)) }
+    ensures { Gives (λ x. (x.0, toks text.now x.1.now)) result
+        (spec.groups_at room (toks text.now tokens.now)) }
 {
     let (first, after) = group(alloc, text, tokens, room)?;
     let mut found = Items::new(alloc);

@@ -1,7 +1,8 @@
 //! From the tokens of a text to those of the parser: each with its sort.
 
 ghost use Rattle.std.specs.Prelude.{◌≡◌, IfOk};
-ghost use Rattle.dactl_syntax.specs.Seen.{between, keyword_sort, sign_sort, sort_of, seen, toks, token_seen, tokens_seen};
+ghost use Rattle.dactl_syntax.specs.Seen.{between, keyword_sort, sign_sort, sort_of, seen, toks};
+ghost use Rattle.dactl_syntax.specs.Seen.{token_seen, tokens_seen};
 
 use crate::token::{Sort, Terminal, between};
 use dactl_tokens::{Token, TokenKind};
@@ -109,7 +110,11 @@ fn terminal(text: &[u8], token: Token) -> Terminal
     }
 }
 
-/// The tokens with their sorts.
+/// The tokens of a text with their sorts, in the same order.
+///
+/// # Errors
+///
+/// Where memory for all of the tokens is wanting, which is asked for at once.
 pub fn terminals(alloc: Global, text: &[u8], tokens: &[Token]) -> Result<Vec<Terminal>, AllocError>
     ensures { IfOk result (λ found. toks text.now found.items ≡ tokens_seen text.now tokens.now) }
 {

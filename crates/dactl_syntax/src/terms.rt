@@ -3,7 +3,8 @@
 ghost use Rattle.std.specs.Prelude.{◌≡◌, ◌≤◌, ◌+◌, ℕ, List, IfOk, length, min};
 ghost use Rattle.dactl_syntax.specs.Sort.{starts_mark, starts_arg};
 ghost use Rattle.dactl_grammar.specs.Reader.{head_is, read_many};
-ghost use Rattle.dactl_syntax.specs.Reading.{by, upper_at, lower_at, hashes_at, mark_at, node_at, body_at, term_at, arg_at, args_at};
+ghost use Rattle.dactl_syntax.specs.Reading.{by, upper_at, lower_at, hashes_at, mark_at, node_at};
+ghost use Rattle.dactl_syntax.specs.Reading.{body_at, term_at, arg_at, args_at};
 ghost use Rattle.dactl_grammar.specs.Giving.{Gives};
 ghost use Rattle.dactl_syntax.specs.Seen.{toks};
 
@@ -13,25 +14,39 @@ use dactl_meaning::tree::{ArgTree, Marks, Name, NodeTree, TermTree};
 use sqlite_items::Items;
 use std::alloc::Global;
 
+/// Reads a name that begins with `A` to `Z`.
+///
+/// # Errors
+///
+/// `Fault` where another token comes next, as `one` has it, and `Memory` where memory for the name
+/// is wanting.
 #[tactic(auto, unfolding(crate::specs::Reading::upper_at))]
 pub fn upper<'a>(
     alloc: Global,
     text: &[u8],
     tokens: &'a [Terminal],
 ) -> Result<(Name, &'a [Terminal]), ReadError>
-    ensures { Gives (λ x. (x.0, toks text.now x.1.now)) result (upper_at (toks text.now tokens.now)) }
+    ensures { Gives (λ x. (x.0, toks text.now x.1.now)) result
+        (upper_at (toks text.now tokens.now)) }
 {
     let (token, rest) = one(text, tokens, Sort::Upper)?;
     Ok((name_at(alloc, text, token)?, rest))
 }
 
+/// Reads a name that begins with `a` to `z`.
+///
+/// # Errors
+///
+/// `Fault` where another token comes next, as `one` has it, and `Memory` where memory for the name
+/// is wanting.
 #[tactic(auto, unfolding(crate::specs::Reading::lower_at))]
 pub fn lower<'a>(
     alloc: Global,
     text: &[u8],
     tokens: &'a [Terminal],
 ) -> Result<(Name, &'a [Terminal]), ReadError>
-    ensures { Gives (λ x. (x.0, toks text.now x.1.now)) result (lower_at (toks text.now tokens.now)) }
+    ensures { Gives (λ x. (x.0, toks text.now x.1.now)) result
+        (lower_at (toks text.now tokens.now)) }
 {
     let (token, rest) = one(text, tokens, Sort::Lower)?;
     Ok((name_at(alloc, text, token)?, rest))
@@ -72,7 +87,8 @@ fn node<'a>(
     tokens: &'a [Terminal],
     room: u32,
 ) -> Result<(NodeTree, &'a [Terminal]), ReadError>
-    ensures { Gives (λ x. (x.0, toks text.now x.1.now)) result (node_at room (toks text.now tokens.now)) }
+    ensures { Gives (λ x. (x.0, toks text.now x.1.now)) result
+        (node_at room (toks text.now tokens.now)) }
 {
     if next_is(tokens, Sort::Integer) {
         let (token, rest) = one(text, tokens, Sort::Integer)?;
@@ -109,7 +125,8 @@ fn args<'a>(
     tokens: &'a [Terminal],
     room: u32,
 ) -> Result<(Items<ArgTree>, &'a [Terminal]), ReadError>
-    ensures { Gives (λ x. (x.0, toks text.now x.1.now)) result (args_at room (toks text.now tokens.now)) }
+    ensures { Gives (λ x. (x.0, toks text.now x.1.now)) result
+        (args_at room (toks text.now tokens.now)) }
 {
     let (_, rest) = one(text, tokens, Sort::Open)?;
     if room == 0 {
@@ -127,7 +144,8 @@ fn arg_list<'a>(
     tokens: &'a [Terminal],
     room: u32,
 ) -> Result<(Items<ArgTree>, &'a [Terminal]), ReadError>
-    ensures { Gives (λ x. (x.0, toks text.now x.1.now)) result (read_many (by starts_arg) (arg_at room) (toks text.now tokens.now)) }
+    ensures { Gives (λ x. (x.0, toks text.now x.1.now)) result
+        (read_many (by starts_arg) (arg_at room) (toks text.now tokens.now)) }
 {
     let mut args = Items::new(alloc);
     let mut rest = tokens;
@@ -139,6 +157,12 @@ fn arg_list<'a>(
     Ok((args, rest))
 }
 
+/// Reads an argument of a node, with at most so many brackets open.
+///
+/// # Errors
+///
+/// `Fault` with `Unexpected` at the first token with which no argument goes on, or with `TooDeep`
+/// at the first bracket past `room`, and `Memory` where memory is wanting.
 #[tactic(auto, unfolding(crate::specs::Reading::arg_at, crate::specs::Reading::term_at))]
 #[cycle(terms)]
 pub fn arg<'a>(
@@ -147,7 +171,8 @@ pub fn arg<'a>(
     tokens: &'a [Terminal],
     room: u32,
 ) -> Result<(ArgTree, &'a [Terminal]), ReadError>
-    ensures { Gives (λ x. (x.0, toks text.now x.1.now)) result (arg_at room (toks text.now tokens.now)) }
+    ensures { Gives (λ x. (x.0, toks text.now x.1.now)) result
+        (arg_at room (toks text.now tokens.now)) }
 {
     if next_is(tokens, Sort::Wait) {
         let (_, rest) = one(text, tokens, Sort::Wait)?;
@@ -160,6 +185,11 @@ pub fn arg<'a>(
 }
 
 /// Reads a term, with at most so many brackets open.
+///
+/// # Errors
+///
+/// `Fault` with `Unexpected` at the first token with which no term goes on, or with `TooDeep` at
+/// the first bracket past `room`, and `Memory` where memory is wanting.
 #[tactic(auto, unfolding(crate::specs::Reading::term_at, crate::specs::Reading::body_at))]
 #[cycle(terms)]
 pub fn term<'a>(
@@ -168,7 +198,8 @@ pub fn term<'a>(
     tokens: &'a [Terminal],
     room: u32,
 ) -> Result<(TermTree, &'a [Terminal]), ReadError>
-    ensures { Gives (λ x. (x.0, toks text.now x.1.now)) result (term_at room (toks text.now tokens.now)) }
+    ensures { Gives (λ x. (x.0, toks text.now x.1.now)) result
+        (term_at room (toks text.now tokens.now)) }
 {
     if starts_mark(tokens) {
         let (marks, rest) = mark(text, tokens)?;
@@ -197,7 +228,8 @@ fn body<'a>(
     tokens: &'a [Terminal],
     room: u32,
 ) -> Result<((Option<Name>, Option<NodeTree>), &'a [Terminal]), ReadError>
-    ensures { Gives (λ x. ((x.0.0, x.0.1), toks text.now x.1.now)) result (body_at room (toks text.now tokens.now)) }
+    ensures { Gives (λ x. ((x.0.0, x.0.1), toks text.now x.1.now)) result
+        (body_at room (toks text.now tokens.now)) }
 {
     if !next_is(tokens, Sort::Lower) {
         let (node, rest) = node(alloc, text, tokens, room)?;
@@ -215,7 +247,8 @@ fn body<'a>(
 
 /// Reads `#` any number of times, and counts them.
 fn hashes<'a>(text: &[u8], tokens: &'a [Terminal]) -> Result<(usize, &'a [Terminal]), ReadError>
-    ensures value { Gives (λ x. (x.0, toks text.now x.1.now)) result (hashes_at (toks text.now tokens.now)) }
+    ensures value { Gives (λ x. (x.0, toks text.now x.1.now)) result
+        (hashes_at (toks text.now tokens.now)) }
     ensures within { IfOk result (λ x. x.0 ≤ length tokens.now) }
 {
     let mut rest = tokens;
@@ -238,7 +271,8 @@ fn capped(more: usize) -> u32
 
 #[tactic(auto, unfolding(crate::specs::Reading::mark_at))]
 fn mark<'a>(text: &[u8], tokens: &'a [Terminal]) -> Result<(Marks, &'a [Terminal]), ReadError>
-    ensures { Gives (λ x. (x.0, toks text.now x.1.now)) result (mark_at (toks text.now tokens.now)) }
+    ensures { Gives (λ x. (x.0, toks text.now x.1.now)) result
+        (mark_at (toks text.now tokens.now)) }
 {
     if next_is(tokens, Sort::Star) {
         let (token, rest) = one(text, tokens, Sort::Star)?;

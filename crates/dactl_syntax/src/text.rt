@@ -27,7 +27,8 @@ const MOST_OPEN: u32 = 200;
 /// Reads the Header of language 2, if it stands there, and answers the language.
 #[tactic(auto, unfolding(crate::specs::Reading::language_at))]
 fn language<'a>(text: &[u8], tokens: &'a [Terminal]) -> Result<(u8, &'a [Terminal]), ReadError>
-    ensures { Gives (λ x. (x.0, toks text.now x.1.now)) result (language_at (toks text.now tokens.now)) }
+    ensures { Gives (λ x. (x.0, toks text.now x.1.now)) result
+        (language_at (toks text.now tokens.now)) }
 {
     if next_is(tokens, Sort::Header) {
         let (_, rest) = one(text, tokens, Sort::Header)?;
@@ -40,7 +41,8 @@ fn language<'a>(text: &[u8], tokens: &'a [Terminal]) -> Result<(u8, &'a [Termina
 /// Reads all of the tokens: the language and the modules.
 #[tactic(auto, unfolding(crate::specs::Reading::text_at))]
 fn whole(alloc: Global, text: &[u8], tokens: &[Terminal]) -> Result<(u8, Items<Module>), ReadError>
-    ensures { Gives (λ x. (x.0, x.1)) result (read_all (text_at most_open) (toks text.now tokens.now)) }
+    ensures { Gives (λ x. (x.0, x.1)) result
+        (read_all (text_at most_open) (toks text.now tokens.now)) }
 {
     let (language, rest) = language(text, tokens)?;
     let (modules, rest) = modules(alloc, text, rest, MOST_OPEN)?;
@@ -50,10 +52,12 @@ fn whole(alloc: Global, text: &[u8], tokens: &[Terminal]) -> Result<(u8, Items<M
     Ok((language, modules))
 }
 
-/// Where the token stands that has so many tokens from it on: the end of the text where there are none.
+/// Where the token stands that has so many tokens from it on: the end of the text where there are
+/// none.
 fn place_from(text: &[u8], tokens: &[Terminal], left: usize) -> Place
     requires { length text.now ≤ 1048576 }
-    ensures { result.byte ≡ next_place (length text.now) (drop (length tokens.now - left) (toks text.now tokens.now)) }
+    ensures { result.byte ≡ next_place (length text.now)
+        (drop (length tokens.now - left) (toks text.now tokens.now)) }
 {
     match tokens.get(tokens.len().saturating_sub(left)) {
         Some(token) => place_of(*token),
@@ -79,15 +83,23 @@ fn refusal_of(text: &[u8], tokens: &[Terminal], fault: Fault) -> Refusal
     }
 }
 
-/// The tree of a text, which is given with its tokens, or the first fault: `Unexpected` at the first
-/// token with which the tokens so far begin no text (at the text's length where the text ends too
-/// early), `TooDeep` at the first bracket that makes more than 200 open.
+/// The tree of a text, which is given with its tokens.
+///
+/// # Errors
+///
+/// `Refused` with the first fault: `Unexpected` at the first token with which the tokens so far
+/// begin no text (at the text's length where the text ends too early), `TooDeep` at the first
+/// bracket that makes more than 200 open. `Memory` where memory is wanting, which tells nothing of
+/// the text.
 pub fn parse(alloc: Global, text: &[u8], tokens: &[Token]) -> Result<Text, TextFault>
     requires short { length text.now ≤ 1048576 }
     ensures found { IfOk result (IsTree text.now tokens.now) }
-    ensures only { (tree : The_text) → IsTree text.now tokens.now tree → OkOrMemory (λ found. found) tree result }
-    ensures refused { (r : The_refusal) → result ≡ Err (Refused r) → IsFirstFault text.now tokens.now r }
-    ensures only_refused { (r : The_refusal) → IsFirstFault text.now tokens.now r → RefusedOrMemory r result }
+    ensures only { (tree : The_text) → IsTree text.now tokens.now tree →
+        OkOrMemory (λ found. found) tree result }
+    ensures refused { (r : The_refusal) → result ≡ Err (Refused r) →
+        IsFirstFault text.now tokens.now r }
+    ensures only_refused { (r : The_refusal) → IsFirstFault text.now tokens.now r →
+        RefusedOrMemory r result }
 {
     let terminals = terminals(alloc, text, tokens)?;
     match whole(alloc, text, terminals.as_slice()) {

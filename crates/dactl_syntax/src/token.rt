@@ -64,6 +64,7 @@ pub struct Terminal {
     pub to: u32,
 }
 
+/// Whether two sorts are the same.
 #[tactic(auto, unfolding(crate::specs::Sort::same_sort))]
 pub fn same_sort(a: Sort, b: Sort) -> bool
     ensures { result ≡ same_sort a b }
@@ -115,6 +116,10 @@ pub fn place_of(token: Terminal) -> Place
 }
 
 /// The name that a token spells.
+///
+/// # Errors
+///
+/// Where memory for the bytes of the name is wanting.
 pub fn name_at(alloc: Global, text: &[u8], token: Terminal) -> Result<Name, AllocError>
     ensures { IfOk result (λ name. name ≡ name_of (seen text.now token)) }
 {
@@ -134,13 +139,19 @@ pub fn next_is(tokens: &[Terminal], sort: Sort) -> bool
     }
 }
 
-/// Reads one token of this sort.
+/// Reads one token of this sort, and answers it with the tokens behind it.
+///
+/// # Errors
+///
+/// `Fault` with `Unexpected` at the next token where it is of another sort, and at the end of the
+/// tokens where none is left. Memory is never wanting.
 pub fn one<'a>(
     text: &[u8],
     tokens: &'a [Terminal],
     sort: Sort,
 ) -> Result<(Terminal, &'a [Terminal]), ReadError>
-    ensures { Gives (λ x. (seen text.now x.0, toks text.now x.1.now)) result (read_sign sort (toks text.now tokens.now)) }
+    ensures { Gives (λ x. (seen text.now x.0, toks text.now x.1.now)) result
+        (read_sign sort (toks text.now tokens.now)) }
 {
     match tokens {
         [] => Err(ReadError::Fault(Fault::Unexpected { left: 0 })),

@@ -2,7 +2,10 @@
 
 ghost use Rattle.std.specs.Prelude.{◌≡◌, ◌==◌, ◌++◌, OnOk, IfOk, map};
 ghost use Rattle.std.specs.List.{concat};
-ghost use Rattle.dactl_syntax.specs.Canonical.{comma, separated, names_text, class_text, public_class_text, public_text, term_text, group_text, item_text, module_text, header_text, canonical};
+ghost use Rattle.dactl_syntax.specs.Canonical.{comma, separated, names_text, class_text};
+ghost use Rattle.dactl_syntax.specs.Canonical.{public_class_text, public_text, term_text};
+ghost use Rattle.dactl_syntax.specs.Canonical.{group_text, item_text, module_text, header_text};
+ghost use Rattle.dactl_syntax.specs.Canonical.{canonical};
 
 use crate::write_patterns::{Standing, pattern};
 use crate::write_rules::group;
@@ -24,7 +27,8 @@ fn names(out: &mut Vec<u8>, names: &[Name]) -> Result<(), AllocError>
 }
 
 fn terms(out: &mut Vec<u8>, terms: &[TermTree]) -> Result<(), AllocError>
-    ensures { OnOk result (out.new.items ≡ out.old.items ++ separated comma (map term_text terms.now)) }
+    ensures { OnOk result (out.new.items ≡ out.old.items ++
+        separated comma (map term_text terms.now)) }
 {
     for index in 0..terms.len() {
         before(out, index, b",".as_slice())?;
@@ -164,8 +168,12 @@ fn header(out: &mut Vec<u8>, language: u8) -> Result<(), AllocError>
 }
 
 /// The canonical text of a tree: its tokens in the order of the grammar, each with one space behind
-/// it, but `;` and the Header with one LF. A text that reads as the tree is written so whatever its gaps and
-/// its needless brackets were.
+/// it, but `;` and the Header with one LF. A text that reads as the tree is written so whatever
+/// its gaps and its needless brackets were.
+///
+/// # Errors
+///
+/// Where memory for the text is wanting.
 pub fn write_text(alloc: Global, text: &Text) -> Result<Vec<u8>, AllocError>
     ensures { IfOk result (λ written. written.items ≡ canonical text.now) }
 {

@@ -2,7 +2,8 @@
 
 ghost use Rattle.std.specs.Prelude.{◌≡◌, ◌++◌, OnOk, List, map};
 ghost use Rattle.std.specs.List.{concat};
-ghost use Rattle.dactl_syntax.specs.Canonical.{pattern_text, tail_text, brackets, piece_of, sign_text};
+ghost use Rattle.dactl_syntax.specs.Canonical.{pattern_text, tail_text, brackets, piece_of};
+ghost use Rattle.dactl_syntax.specs.Canonical.{sign_text};
 ghost use Rattle.dactl_syntax.specs.declared.write_patterns.Standing.TheVariants as standing;
 
 use crate::write_words::{character, integer, name, word};
@@ -41,6 +42,10 @@ fn sign(out: &mut Vec<u8>, sign: Sign) -> Result<(), AllocError>
 }
 
 /// Writes a pattern, in round brackets where it needs them.
+///
+/// # Errors
+///
+/// Where memory for the text is wanting; `out` then has what was written before it.
 #[cycle(write_patterns)]
 pub fn pattern(out: &mut Vec<u8>, tree: &PatternTree, standing: Standing) -> Result<(), AllocError>
     ensures { OnOk result (out.new.items ≡ out.old.items ++ pattern_text standing tree.now) }
@@ -113,7 +118,8 @@ fn bare(out: &mut Vec<u8>, tree: &PatternTree) -> Result<(), AllocError>
 
 #[cycle(write_patterns)]
 fn pieces(out: &mut Vec<u8>, args: &[PatternTree]) -> Result<(), AllocError>
-    ensures { OnOk result (out.new.items ≡ out.old.items ++ concat (map (pattern_text standing.Inner) args.now)) }
+    ensures { OnOk result (out.new.items ≡ out.old.items ++
+        concat (map (pattern_text standing.Inner) args.now)) }
 {
     for piece in args {
         pattern(out, piece, Standing::Inner)?;

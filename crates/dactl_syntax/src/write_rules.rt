@@ -1,7 +1,8 @@
 //! Rules of a canonical text.
 
 ghost use Rattle.std.specs.Prelude.{◌≡◌, ◌++◌, OnOk, map};
-ghost use Rattle.dactl_syntax.specs.Canonical.{comma, bar, separated, arrow_text, part_text, rule_text, group_text};
+ghost use Rattle.dactl_syntax.specs.Canonical.{comma, bar, separated, arrow_text, part_text};
+ghost use Rattle.dactl_syntax.specs.Canonical.{rule_text, group_text};
 
 use crate::write_patterns::{Standing, pattern};
 use crate::write_terms::term;
@@ -27,7 +28,8 @@ fn part(out: &mut Vec<u8>, part: &Part) -> Result<(), AllocError>
 }
 
 fn parts(out: &mut Vec<u8>, parts: &[Part]) -> Result<(), AllocError>
-    ensures { OnOk result (out.new.items ≡ out.old.items ++ separated comma (map part_text parts.now)) }
+    ensures { OnOk result (out.new.items ≡ out.old.items ++
+        separated comma (map part_text parts.now)) }
 {
     for index in 0..parts.len() {
         before(out, index, b",".as_slice())?;
@@ -57,7 +59,8 @@ fn rule(out: &mut Vec<u8>, rule: &RuleTree) -> Result<(), AllocError>
 }
 
 fn rules(out: &mut Vec<u8>, rules: &[RuleTree]) -> Result<(), AllocError>
-    ensures { OnOk result (out.new.items ≡ out.old.items ++ separated bar (map rule_text rules.now)) }
+    ensures { OnOk result (out.new.items ≡ out.old.items ++
+        separated bar (map rule_text rules.now)) }
 {
     for index in 0..rules.len() {
         before(out, index, b"|".as_slice())?;
@@ -67,6 +70,10 @@ fn rules(out: &mut Vec<u8>, rules: &[RuleTree]) -> Result<(), AllocError>
 }
 
 /// Writes a group of rules.
+///
+/// # Errors
+///
+/// Where memory for the text is wanting; `out` then has what was written before it.
 pub fn group(out: &mut Vec<u8>, group: &Group) -> Result<(), AllocError>
     ensures { OnOk result (out.new.items ≡ out.old.items ++ group_text group.now) }
 {

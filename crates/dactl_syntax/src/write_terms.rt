@@ -2,7 +2,8 @@
 
 ghost use Rattle.std.specs.Prelude.{◌≡◌, ◌++◌, ◌∷◌, [], OnOk, map};
 ghost use Rattle.std.specs.List.{concat};
-ghost use Rattle.dactl_syntax.specs.Canonical.{word as a_word, repeated, marks_text, node_text, arg_text, term_text};
+ghost use Rattle.dactl_syntax.specs.Canonical.{word as a_word, repeated, marks_text, node_text};
+ghost use Rattle.dactl_syntax.specs.Canonical.{arg_text, term_text};
 
 use crate::write_words::{character, integer, name, word};
 use dactl_meaning::tree::{ArgTree, Marks, NodeTree, TermTree};
@@ -77,6 +78,11 @@ fn arg(out: &mut Vec<u8>, tree: &ArgTree) -> Result<(), AllocError>
     Ok(())
 }
 
+/// Writes a term.
+///
+/// # Errors
+///
+/// Where memory for the text is wanting; `out` then has what was written before it.
 #[cycle(write_terms)]
 pub fn term(out: &mut Vec<u8>, tree: &TermTree) -> Result<(), AllocError>
     ensures { OnOk result (out.new.items ≡ out.old.items ++ term_text tree.now) }

@@ -9,6 +9,10 @@ use dactl_meaning::tree::Name;
 use std::alloc::AllocError;
 
 /// Writes a token and one space.
+///
+/// # Errors
+///
+/// Where memory for the text is wanting; `out` then has what was written before it.
 pub fn word(out: &mut Vec<u8>, word: &[u8]) -> Result<(), AllocError>
     ensures { OnOk result (out.new.items ≡ out.old.items ++ canonical.word word.now) }
 {
@@ -18,6 +22,10 @@ pub fn word(out: &mut Vec<u8>, word: &[u8]) -> Result<(), AllocError>
 }
 
 /// Writes `;` and one LF.
+///
+/// # Errors
+///
+/// Where memory for the text is wanting; `out` then has what was written before it.
 pub fn line_end(out: &mut Vec<u8>) -> Result<(), AllocError>
     ensures { OnOk result (out.new.items ≡ out.old.items ++ canonical.line_end) }
 {
@@ -26,12 +34,22 @@ pub fn line_end(out: &mut Vec<u8>) -> Result<(), AllocError>
     Ok(())
 }
 
+/// Writes the bytes of a name and one space.
+///
+/// # Errors
+///
+/// Where memory for the text is wanting; `out` then has what was written before it.
 pub fn name(out: &mut Vec<u8>, name: &Name) -> Result<(), AllocError>
     ensures { OnOk result (out.new.items ≡ out.old.items ++ canonical.word name.now.text) }
 {
     word(out, name.text.as_slice())
 }
 
+/// Writes an integer in decimal digits, behind `-` where it is below zero, and one space.
+///
+/// # Errors
+///
+/// Where memory for the text is wanting; `out` then has what was written before it.
 pub fn integer(out: &mut Vec<u8>, value: i128) -> Result<(), AllocError>
     ensures { OnOk result (out.new.items ≡ out.old.items ++ canonical.word (signed_decimal value)) }
 {
@@ -40,6 +58,10 @@ pub fn integer(out: &mut Vec<u8>, value: i128) -> Result<(), AllocError>
 }
 
 /// Writes a character, its byte between two `'`.
+///
+/// # Errors
+///
+/// Where memory for the text is wanting; `out` then has what was written before it.
 pub fn character(out: &mut Vec<u8>, byte: u8) -> Result<(), AllocError>
     ensures { OnOk result (out.new.items ≡ out.old.items ++ canonical.character byte) }
 {
@@ -47,8 +69,13 @@ pub fn character(out: &mut Vec<u8>, byte: u8) -> Result<(), AllocError>
 }
 
 /// Writes a token before each part but the first, which has the index 0.
+///
+/// # Errors
+///
+/// Where memory for the text is wanting; `out` then has what was written before it.
 pub fn before(out: &mut Vec<u8>, index: usize, token: &[u8]) -> Result<(), AllocError>
-    ensures { OnOk result (out.new.items ≡ out.old.items ++ canonical.before_text index (canonical.word token.now)) }
+    ensures { OnOk result (out.new.items ≡ out.old.items ++
+        canonical.before_text index (canonical.word token.now)) }
 {
     if index > 0 {
         word(out, token)?;
