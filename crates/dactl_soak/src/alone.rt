@@ -73,7 +73,7 @@ fn left(state: State) -> Finished
 }
 
 /// What a worker with this hand leaves of the program, once it has worked alone to an end.
-pub fn worked<B: Board, R: Wait>(
+pub(crate) fn worked<B: Board, R: Wait>(
     rt: &R,
     alloc: Global,
     program: Program,
@@ -98,7 +98,7 @@ where
 }
 
 /// The graph as it is printed.
-pub fn printed(alloc: Global, finished: &Finished) -> Option<MemorySink>
+pub(crate) fn printed(alloc: Global, finished: &Finished) -> Option<MemorySink>
     requires formed { IsWellFormed finished.now.store.graph }
     requires symbols { HasSymbolsOf finished.now.program finished.now.store.graph }
 {

@@ -9,7 +9,7 @@ use std::sync::Wait;
 
 /// What becomes of an offer.
 #[derive(Clone, Copy)]
-pub enum Offers {
+pub(crate) enum Offers {
     /// It is handed back.
     Refused,
     /// The board keeps it, and gives it to nobody.
@@ -18,14 +18,14 @@ pub enum Offers {
 
 /// A board that gives each hand one node at most, and then none.
 #[derive(Clone, Copy)]
-pub struct DullBoard {
+pub(crate) struct DullBoard {
     pub offers: Offers,
     pub gives: Option<NodeId>,
 }
 
 /// The hand of one worker on a `DullBoard`.
 #[derive(Drop)]
-pub struct DullHand {
+pub(crate) struct DullHand {
     put: Vec<NodeId>,
     taken: Vec<NodeId>,
     back: u64,
@@ -33,7 +33,7 @@ pub struct DullHand {
 
 impl DullHand {
     /// A hand that has done nothing.
-    pub fn new(alloc: Global) -> DullHand
+    pub(crate) fn new(alloc: Global) -> DullHand
         ensures { result.back ≡ 0 }
     {
         DullHand {

@@ -18,7 +18,7 @@ use std::thread::Threads;
 
 /// What a call answered and kept, and what its sink holds.
 #[derive(Drop)]
-pub struct Answered {
+pub(crate) struct Answered {
     pub status: Status,
     pub kept: Kept,
     pub sink: MemorySink,
@@ -34,7 +34,12 @@ fn words_of(alloc: Global, words: &str) -> Result<Vec<String>, AllocError> {
 }
 
 /// Calls with these words, a space between any two, over the text, with workers that pass the gate.
-pub fn called<R: Threads + Wait + Sync, G: Gate + Sync>(
+///
+/// # Errors
+///
+/// `AllocError` where there is not the memory for the words, the source or the sink. A call that
+/// itself lacks memory answers so.
+pub(crate) fn called<R: Threads + Wait + Sync, G: Gate + Sync>(
     rt: &R,
     alloc: Global,
     words: &str,
@@ -50,7 +55,11 @@ pub fn called<R: Threads + Wait + Sync, G: Gate + Sync>(
 }
 
 /// The program that the text means, where it means one.
-pub fn compiled<R: Threads + Wait + Sync>(rt: &R, alloc: Global, text: &str) -> Option<Program>
+pub(crate) fn compiled<R: Threads + Wait + Sync>(
+    rt: &R,
+    alloc: Global,
+    text: &str,
+) -> Option<Program>
     ensures { IfSome result IsValid }
 {
     let mut answered = called(rt, alloc, "--check", text, &OpenGate).ok()?;
@@ -63,6 +72,6 @@ pub fn compiled<R: Threads + Wait + Sync>(rt: &R, alloc: Global, text: &str) -> 
 }
 
 /// Whether the journal is, step by step, a run of the program.
-pub fn is_run(alloc: Global, program: &Program, journal: &[Entry]) -> bool {
+pub(crate) fn is_run(alloc: Global, program: &Program, journal: &[Entry]) -> bool {
     is_valid(program) && matches!(replay(alloc, program, journal), Ok(Some(_)))
 }

@@ -1,6 +1,6 @@
 //! Runs under contention, many times over. The crate has tests alone: of single workers on boards
-//! that do little, of whole calls whose workers want the same cells, and of the sample. The journals
-//! are replayed by the executor over whole graphs.
+//! that do little, of whole calls whose workers want the same cells, and of the sample. The
+//! journals are replayed by the executor over whole graphs.
 #![tactic(auto)]
 
 #[cfg(test)]

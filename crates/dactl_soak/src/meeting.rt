@@ -12,10 +12,10 @@ fn flag_of(worker: u8) -> u64 {
     1u64.wrapping_shl(u32::from(worker))
 }
 
-/// A gate at whose first commit each worker sets its flag, and then waits until the flags of all are
-/// set. So no commit changes what another has read for its first one.
+/// A gate at whose first commit each worker sets its flag, and then waits until the flags of all
+/// are set. So no commit changes what another has read for its first one.
 #[derive(Drop)]
-pub struct Meeting {
+pub(crate) struct Meeting {
     all: u64,
     flags: AtomicU64,
     is_late: AtomicBool,
@@ -23,7 +23,7 @@ pub struct Meeting {
 
 impl Meeting {
     /// A gate for so many workers.
-    pub fn new(workers: u8) -> Meeting {
+    pub(crate) fn new(workers: u8) -> Meeting {
         let mut all = 0;
         for worker in 1..=workers {
             all |= flag_of(worker);
@@ -55,7 +55,7 @@ impl Meeting {
     }
 
     /// Whether every worker came, and none gave up waiting.
-    pub fn took_place(&self) -> bool {
+    pub(crate) fn took_place(&self) -> bool {
         self.flags.load(Ordering::SeqCst) == self.all && !self.is_late.load(Ordering::SeqCst)
     }
 }
@@ -68,17 +68,17 @@ impl Gate for Meeting {
     }
 }
 
-/// A gate at which the workers meet twice: before their first commits, and after their next readings,
-/// so that all first commits come before all others.
+/// A gate at which the workers meet twice: before their first commits, and after their next
+/// readings, so that all first commits come before all others.
 #[derive(Drop)]
-pub struct TwoMeetings {
+pub(crate) struct TwoMeetings {
     first: Meeting,
     second: Meeting,
 }
 
 impl TwoMeetings {
     /// A gate for so many workers.
-    pub fn new(workers: u8) -> TwoMeetings {
+    pub(crate) fn new(workers: u8) -> TwoMeetings {
         TwoMeetings {
             first: Meeting::new(workers),
             second: Meeting::new(workers),
@@ -86,7 +86,7 @@ impl TwoMeetings {
     }
 
     /// Whether both meetings took place.
-    pub fn took_place(&self) -> bool {
+    pub(crate) fn took_place(&self) -> bool {
         self.first.took_place() && self.second.took_place()
     }
 }

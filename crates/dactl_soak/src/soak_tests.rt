@@ -7,7 +7,8 @@ use std::alloc::{AllocError, Global};
 use std::sync::Wait;
 use std::thread::Threads;
 
-/// Three cells, which twelve calls turn over: the first five times, the second four, the third three.
+/// Three cells, which twelve calls turn over: the first five times, the second four, the third
+/// three.
 const THREE_CELLS: &str =
     "MODULE M; SYMBOL REWRITABLE Turn; SYMBOL OVERWRITABLE Cell; SYMBOL CREATABLE Top, On, Off, Done; RULE Turn[c:Cell[On]] => Done, c := Cell[Off]; Turn[c:Cell[Off]] => Done, c := Cell[On]; INITIAL => Top[a:Cell[Off] b:Cell[Off] c:Cell[Off] *Turn[a] *Turn[b] *Turn[c] *Turn[a] *Turn[b] *Turn[c] *Turn[a] *Turn[b] *Turn[c] *Turn[a] *Turn[b] *Turn[a]]; ENDMODULE M;";
 
@@ -42,8 +43,8 @@ fn stale_of(answered: &Answered) -> u64 {
     stale
 }
 
-// Whether eight workers that read the cells at the same time turn them over. Their first commits are
-// of eight calls, and at each cell one alone is in time.
+// Whether eight workers that read the cells at the same time turn them over. Their first commits
+// are of eight calls, and at each cell one alone is in time.
 fn meet_at_cells<R: Threads + Wait + Sync>(rt: &R, alloc: Global) -> Result<bool, AllocError> {
     let gate = TwoMeetings::new(8);
     let words = "--workers 8 --nodes 64 --budget 64";
