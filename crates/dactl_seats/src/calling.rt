@@ -43,7 +43,11 @@ fn checked<R: Threads + Wait + Sync>(
 }
 
 /// The program that the text means, where it means one.
-pub fn compiled<R: Threads + Wait + Sync>(rt: &R, alloc: Global, text: &str) -> Option<Program>
+pub(crate) fn compiled<R: Threads + Wait + Sync>(
+    rt: &R,
+    alloc: Global,
+    text: &str,
+) -> Option<Program>
     ensures { IfSome result IsValid }
 {
     let mut kept = checked(rt, alloc, text).ok()?;

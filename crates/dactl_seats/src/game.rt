@@ -11,7 +11,7 @@ use std::sync::Wait;
 use std::thread::Threads;
 
 /// What the two seats do.
-pub trait Game {
+pub(crate) trait Game {
     /// Whether the answers are those that were expected. None where memory is wanting, or a node is
     /// not there.
     fn play<R: Wait>(
@@ -30,14 +30,14 @@ pub trait Game {
 
 /// The program and the limits of a game, and what it leaves.
 #[derive(Clone, Copy)]
-pub struct Scene<'a> {
+pub(crate) struct Scene<'a> {
     pub text: &'a str,
     pub limits: Limits,
     pub rest: Rest<'a>,
 }
 
 /// Whether the game gives the answers that it expects, and leaves what the scene says.
-pub fn is_played<R: Threads + Wait + Sync, G: Game>(
+pub(crate) fn is_played<R: Threads + Wait + Sync, G: Game>(
     rt: &R,
     alloc: Global,
     scene: &Scene,

@@ -1,4 +1,5 @@
-//! A reader comes too late: between its probe and its commit a writer overwrites the cell that it read.
+//! A reader comes too late: between its probe and its commit a writer overwrites the cell that it
+//! read.
 
 ghost use Rattle.dactl_shared.specs.Stores.{WorksFor};
 
@@ -90,8 +91,8 @@ fn puts<R: Wait>(rt: &R, alloc: Global, table: &Table, seat: &mut WorkerSeat) ->
     )
 }
 
-// Whether the nodes have the versions that overwriting the cell leaves: the owners of arcs to it and
-// the new nodes have that of its entry.
+// Whether the nodes have the versions that overwriting the cell leaves: the owners of arcs to it
+// and the new nodes have that of its entry.
 fn has_versions<R: Wait>(rt: &R, table: &Table, seat: &mut WorkerSeat) -> bool
     requires { WorksFor table.now.store seat.old }
     ensures { WorksFor table.now.store seat.new }

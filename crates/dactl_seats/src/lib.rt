@@ -1,6 +1,7 @@
 //! Turns at one store in an order that is written down, and by many threads. The crate has tests
-//! alone: two seats on one thread, whose probes and commits come one after another as a test says, and
-//! four threads that share a long run. The journals are replayed by the executor over whole graphs.
+//! alone: two seats on one thread, whose probes and commits come one after another as a test says,
+//! and four threads that share a long run. The journals are replayed by the executor over whole
+//! graphs.
 #![tactic(auto)]
 
 #[cfg(test)]

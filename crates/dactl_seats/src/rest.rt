@@ -17,7 +17,7 @@ use std::alloc::Global;
 
 /// How a run ended, if it has ended, its journal, and its last graph as it is printed.
 #[derive(Clone, Copy)]
-pub struct Rest<'a> {
+pub(crate) struct Rest<'a> {
     pub end: Option<End>,
     pub journal: &'a [Entry],
     pub graph: &'a [u8],
@@ -42,7 +42,7 @@ fn printed(alloc: Global, finished: &Finished) -> Option<MemorySink>
 }
 
 /// Whether the run has left this.
-pub fn is_left(alloc: Global, finished: &Finished, rest: &Rest) -> Option<bool>
+pub(crate) fn is_left(alloc: Global, finished: &Finished, rest: &Rest) -> Option<bool>
     requires formed { IsWellFormed finished.now.store.graph }
     requires symbols { HasSymbolsOf finished.now.program finished.now.store.graph }
 {
@@ -88,7 +88,7 @@ fn has_graph(store: &Store, graph: &Graph) -> bool {
 }
 
 /// Whether the journal is, step by step, a run of the program to the last graph.
-pub fn is_run(alloc: Global, finished: &Finished) -> bool {
+pub(crate) fn is_run(alloc: Global, finished: &Finished) -> bool {
     if !is_valid(&finished.program) {
         return false;
     }

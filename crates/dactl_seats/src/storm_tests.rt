@@ -42,8 +42,8 @@ const fn put(number: u32) -> Entry {
     }
 }
 
-// Whether the first seat's attempt at `Get` comes too late for the second, which overwrites the cell
-// at the `Put` of this number.
+// Whether the first seat's attempt at `Get` comes too late for the second, which overwrites the
+// cell at the `Put` of this number.
 fn comes_late<R: Wait>(
     rt: &R,
     alloc: Global,

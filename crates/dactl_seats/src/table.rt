@@ -19,14 +19,15 @@ use std::thread::Threads;
 
 /// A store, and the deciders of its program.
 #[derive(Drop)]
-pub struct Table {
+pub(crate) struct Table {
     pub store: SharedStore,
     pub deciders: Deciders,
-    ghost same: { deciders.program ≡ program_of store } by { Coded-set program.the_row.coded deciders.program (program_of store) },
+    ghost same: { deciders.program ≡ program_of store } by { Coded-set program.the_row.coded
+        deciders.program (program_of store) },
 }
 
 /// A store over the start of the text's program, and its seats.
-pub fn laid<R: Threads + Wait + Sync>(
+pub(crate) fn laid<R: Threads + Wait + Sync>(
     rt: &R,
     alloc: Global,
     text: &str,
@@ -46,7 +47,7 @@ pub fn laid<R: Threads + Wait + Sync>(
 }
 
 /// The last of the seats.
-pub fn last_seat(table: &Table, seats: &mut Vec<WorkerSeat>) -> Option<WorkerSeat>
+pub(crate) fn last_seat(table: &Table, seats: &mut Vec<WorkerSeat>) -> Option<WorkerSeat>
     requires { All (IsFresh table.now.store) seats.old.items }
     ensures seat { IfSome result (IsFresh table.now.store) }
     ensures others { All (IsFresh table.now.store) seats.new.items }
@@ -56,7 +57,7 @@ pub fn last_seat(table: &Table, seats: &mut Vec<WorkerSeat>) -> Option<WorkerSea
 }
 
 /// What the state leaves, which can be printed.
-pub fn left(state: State) -> Finished
+pub(crate) fn left(state: State) -> Finished
     ensures formed { IsWellFormed result.store.graph }
     ensures symbols { HasSymbolsOf result.program result.store.graph }
 {

@@ -16,7 +16,7 @@ use std::sync::Wait;
 
 /// What a commit answered, and the nodes that it made active.
 #[derive(Drop)]
-pub struct Reply {
+pub(crate) struct Reply {
     pub answer: Answer,
     pub woken: Woken,
 }
@@ -44,7 +44,7 @@ fn gathered<R: Wait>(
 }
 
 /// What a probe of the node asks for.
-pub fn probed<R: Wait>(
+pub(crate) fn probed<R: Wait>(
     rt: &R,
     alloc: Global,
     store: &SharedStore,
@@ -66,7 +66,7 @@ pub fn probed<R: Wait>(
 }
 
 /// The node of this number, where there is one.
-pub fn there<R: Wait>(
+pub(crate) fn there<R: Wait>(
     rt: &R,
     store: &SharedStore,
     seat: &mut WorkerSeat,
@@ -84,7 +84,7 @@ pub fn there<R: Wait>(
 }
 
 /// What a probe of the node of this number asks for, where there is one.
-pub fn probed_at<R: Wait>(
+pub(crate) fn probed_at<R: Wait>(
     rt: &R,
     alloc: Global,
     table: &Table,
@@ -103,7 +103,7 @@ pub fn probed_at<R: Wait>(
 }
 
 /// What the store answers to the attempt, which it may be asked again.
-pub fn told<R: Wait>(
+pub(crate) fn told<R: Wait>(
     rt: &R,
     alloc: Global,
     store: &SharedStore,
@@ -123,7 +123,7 @@ pub fn told<R: Wait>(
 }
 
 /// The answer alone.
-pub fn answer<R: Wait>(
+pub(crate) fn answer<R: Wait>(
     rt: &R,
     alloc: Global,
     store: &SharedStore,
@@ -142,7 +142,7 @@ pub fn answer<R: Wait>(
 }
 
 /// What the store answers to a probe of the node of this number, and its commit at once.
-pub fn tried_at<R: Wait>(
+pub(crate) fn tried_at<R: Wait>(
     rt: &R,
     alloc: Global,
     table: &Table,
@@ -158,7 +158,7 @@ pub fn tried_at<R: Wait>(
 
 /// What the store answers to a probe of an active node, and its commit at once. None where no node
 /// is active, or memory is wanting.
-pub fn tried_next<R: Wait>(
+pub(crate) fn tried_next<R: Wait>(
     rt: &R,
     alloc: Global,
     store: &SharedStore,
