@@ -11,7 +11,10 @@ use dactl_syntax::parse;
 use dactl_tokens::tokens;
 use std::alloc::Global;
 
-/// The program of a text of modules, or its first fault.
+/// The program of a text of modules.
+///
+/// # Errors
+/// `Refused` with the text's first fault, or `Memory` where memory is wanting.
 pub fn compile(alloc: Global, text: &[u8]) -> Result<Program, TextFault>
     requires { length text.now ≤ 1048576 }
     ensures { IfOk result IsValid }
