@@ -3,8 +3,8 @@ use Rattle.std.proofs.Common.{◌≡◌, ℕ, Bool, true, inl, inr, List, [], �
 use Rattle.std.specs.List.{AllByRecursion as Each, concat}
 use Rattle.std.proofs.lemmas.List.{append-nil}
 use Rattle.dactl_grammar.specs.Grammar.{one, choice, maybe, many, means, placed, place_of}
-use Rattle.dactl_syntax.specs.declared.token.Sort.{Sort}
-use Rattle.dactl_syntax.specs.Productions.{Tok, Part_of, is, sign, behind, before, pair, listed}
+use Rattle.dactl_terminals.specs.declared.token.Sort.{Sort}
+use Rattle.dactl_terminals.specs.Parts.{Tok, Part_of, is, sign, behind, before, pair, listed}
 use Rattle.dactl_syntax.proofs.Holding.{each_append}
 use Rattle.dactl_syntax.proofs.Words.{Word, IsFine, text_of, after, tok_at, toks_at, text_row, toks_row}
 

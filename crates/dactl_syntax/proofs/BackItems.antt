@@ -11,7 +11,7 @@ use Rattle.dactl_grammar.proofs.Holds.{Holds, holds_weaker, holds_one, holds_row
 use Rattle.dactl_tokens.specs.declared.token.TokenKind.TheVariants as kinds
 use Rattle.dactl_tokens.specs.Spelling.{kind_of, is_keyword}
 use Rattle.dactl_tokens.specs.Lexes.{Lexes, has_header, header}
-use Rattle.dactl_syntax.specs.declared.token.Sort.TheVariants as s
+use Rattle.dactl_terminals.specs.declared.token.Sort.TheVariants as s
 use Rattle.dactl_meaning.specs.declared.tree.Name.{Name}
 use Rattle.dactl_meaning.specs.declared.tree.PatternTree.{PatternTree}
 use Rattle.dactl_meaning.specs.declared.tree.TermTree.{TermTree}
@@ -20,9 +20,11 @@ use Rattle.dactl_meaning.specs.declared.tree.Item.{Item}
 use Rattle.dactl_meaning.specs.declared.tree.Item.TheVariants as item
 use Rattle.dactl_meaning.specs.declared.tree.Module.{Module}
 use Rattle.dactl_meaning.specs.declared.tree.Text.{Text}
-use Rattle.dactl_syntax.specs.Sort.{same_sort, is_class}
-use Rattle.dactl_syntax.specs.Productions.{Tok, Part_of, is, sign, behind, before, pair, several, upper, name_of, names, imports_of, imports, class_of, class_at, class, ClassHere, symbols_of, symbols, pattern_named_of, named, rules_of, rules, initial_of, initial, an_item, is_name, module_of, a_module, text}
-use Rattle.dactl_syntax.specs.Seen.{sort_of, keyword_sort, token_seen}
+use Rattle.dactl_terminals.specs.Sort.{same_sort}
+use Rattle.dactl_syntax.specs.Sort.{is_class}
+use Rattle.dactl_terminals.specs.Parts.{Tok, Part_of, is, sign, behind, before, pair, upper, name_of, names}
+use Rattle.dactl_syntax.specs.Productions.{several, imports_of, imports, class_of, class_at, class, ClassHere, symbols_of, symbols, pattern_named_of, named, rules_of, rules, initial_of, initial, an_item, is_name, module_of, a_module, text}
+use Rattle.dactl_terminals.specs.Seen.{keyword_sort, sort_of, token_seen}
 use Rattle.dactl_syntax.specs.Canonical.{word, line_end, names_text, class_text, public_class_text, public_text, group_text, item_text, module_text, header_text, canonical}
 use Rattle.dactl_meaning.specs.Unplaced.{nowhere, bare_name, bare_pattern, bare_class, bare_item, bare_module, without_places}
 use Rattle.dactl_meaning.specs.Meaning.{is_wide}
@@ -49,7 +51,7 @@ module _ (wide : Bool) where
 
   -- ---- symbols
 
-  class_word : (c : Class) (bytes : List ℕ) → kind_of wide bytes ≡ Some kinds.Keyword → is_class (sort_of kinds.Keyword bytes) ≡ true → class_of (sort_of kinds.Keyword bytes) ≡ c → Back wide class (word bytes) (λ v. v.0 ≡ c)
+  class_word : (c : Class) (bytes : List ℕ) → kind_of wide bytes ≡ Some kinds.Keyword → is_class (sort_of false kinds.Keyword bytes) ≡ true → class_of (sort_of false kinds.Keyword bytes) ≡ c → Back wide class (word bytes) (λ v. v.0 ≡ c)
   class_word c bytes e h k = back_means class_at (λ v. v.0 ≡ c) (λ t l. l) (back_one (λ t. is_class t.sort) (record { kind = kinds.Keyword; bytes = bytes; blank = 32 }) (λ t. class_of t.sort ≡ c) (record { kind = e; fits = λ i. absurd (no_integer_keyword i); space = inl refl }) (λ place. h) (λ place. k))
 
   class_back : (c : Class) → Back wide class (class_text c) (λ v. v.0 ≡ c)
@@ -239,7 +241,7 @@ narrow_again tree e n b =
     }
 
 -- the Header as the grammar sees it
-header_seen : (bytes : List ℕ) → is s.Header (token_seen bytes header) ≡ true
+header_seen : (bytes : List ℕ) → is s.Header (token_seen false bytes header) ≡ true
 unfolding sort_of same_sort
 header_seen bytes = refl
 
@@ -248,7 +250,7 @@ wide_again tree e b =
     let d = b.derives 9 in
     let ts = tokens_at 9 b.words in
     let are : canonical tree ≡ header_text true ++ text_of b.words = canonical_is true tree (ap (λ (k : ℕ). k == 2) e) ∙ ap (λ (z : List ℕ). header_text true ++ z) b.are in
-    let first : Tok = token_seen (canonical tree) header in
+    let first : Tok = token_seen false (canonical tree) header in
     record {
       again = tree_again 2 d.value tree;
       reads = record {

@@ -5,7 +5,7 @@ use Rattle.std.specs.Fmt.{signed_decimal}
 use Rattle.std.specs.List.{AllByRecursion as Each, concat}
 use Rattle.std.proofs.lemmas.List.{append-nil}
 use Rattle.dactl_grammar.proofs.Holds.{Holds, IfThere, holds_weaker, holds_one, holds_row, holds_choice, holds_maybe, holds_many, holds_means, holds_barred}
-use Rattle.dactl_syntax.specs.declared.token.Sort.TheVariants as s
+use Rattle.dactl_terminals.specs.declared.token.Sort.TheVariants as s
 use Rattle.dactl_meaning.specs.declared.tree.Name.{Name}
 use Rattle.dactl_meaning.specs.declared.tree.Sign.{Sign}
 use Rattle.dactl_meaning.specs.declared.tree.Sign.TheVariants as signs
@@ -16,7 +16,8 @@ use Rattle.dactl_meaning.specs.declared.tree.PatternTree.TheOpen.{PatternTree-F}
 use Rattle.dactl_meaning.specs.declared.tree.PatternTree.TheViews.{roll-PatternTree}
 use Rattle.dactl_meaning.specs.declared.tree.PatternTree.TheFolds.{fold-roll-PatternTree, map-PatternTree}
 use Rattle.dactl_syntax.specs.declared.write_patterns.Standing.TheVariants as standing
-use Rattle.dactl_syntax.specs.Productions.{Part_of, is, sign, pair, upper, lower, any_of, int_of, char_of, number_of, letter, value_at, character_of, pattern_sym_of, base, piece_at, piece_of as pieced, piece, plus_of, minus_of, operator, chain_at, chain_of, squares, rounds, pattern}
+use Rattle.dactl_terminals.specs.Parts.{Part_of, is, sign, pair, upper, lower, value_at}
+use Rattle.dactl_syntax.specs.Productions.{any_of, int_of, char_of, number_of, letter, character_of, pattern_sym_of, base, piece_at, piece_of as pieced, piece, plus_of, minus_of, operator, chain_at, chain_of, squares, rounds, pattern}
 use Rattle.dactl_syntax.specs.Canonical.{word, character, Piece, in_round, stand, plain, sign_text, pattern_level, piece_of, pattern_text, tail_text}
 use Rattle.dactl_meaning.specs.Unplaced.{bare_name, bare_pattern_level, bare_pattern}
 use Rattle.dactl_syntax.proofs.Holding.{AreTold, split_told, holds_behind, holds_before}
@@ -172,7 +173,7 @@ module _ (wide : Bool) where
     char_base : wide ≡ true → IsBase n p.Char
     char_base e = stands_as n p.Char (word (codes "CHAR")) (level_text p.Char PatternTree-F.Char rolls-Char) (back_right (back_right (back_left (back_means char_of (Same p.Char) (λ u k. refl) (char_back wide e)))))
 
-    number_base : (value : ℤ) → Back wide (sign s.Integer) (word (signed_decimal value)) (λ t. value_at t.word ≡ value) → IsBase n (p.Integer value)
+    number_base : (value : ℤ) → Back wide (sign s.Integer) (word (signed_decimal value)) (λ t. value_at true t.word ≡ value) → IsBase n (p.Integer value)
     number_base value b = stands_as n (p.Integer value) (word (signed_decimal value)) (level_text (p.Integer value) (PatternTree-F.Integer value) (rolls-Integer value))
         (back_right (back_right (back_right (back_left (back_means number_of (Same (p.Integer value)) (λ u k. ap (λ (z : ℤ). bare_pattern (p.Integer z)) k) b)))))
 
@@ -199,7 +200,7 @@ module _ (wide : Bool) where
         holds_choice (holds_means any_of (IsBase n) (λ t h. any_base) (holds_one (is s.Any)))
         (holds_choice (holds_means int_of (IsBase n) (λ t h. int_base) (holds_one (is s.Int)))
         (holds_choice (holds_means char_of (IsBase n) (λ t h. char_base (h.0.0.char h.1)) (holds_one (is s.Char)))
-        (holds_choice (holds_means number_of (IsBase n) (λ t h. number_base (value_at t.word) (integer_back wide (value_at t.word) (h.0.0.value h.1))) (holds_one (is s.Integer)))
+        (holds_choice (holds_means number_of (IsBase n) (λ t h. number_base (value_at true t.word) (integer_back wide (value_at true t.word) (h.0.0.value h.1))) (holds_one (is s.Integer)))
         (holds_choice (holds_means character_of (IsBase n) (λ t h. character_base (letter t.word) (character_back wide t.word (h.0.0.character h.1))) (holds_one (is s.Character)))
         (holds_choice (holds_means pattern_sym_of (IsBase n) (λ v h. sym_base v.0 v.1 h.0 h.1) (holds_row (split_told wide) (upper_reads wide) (λ _. holds_maybe square_reads))) round_reads)))))
 

@@ -3,8 +3,8 @@ use Rattle.std.proofs.Common.{◌≡◌, ℕ, Bool, true, false, List, [], ◌�
 use Rattle.std.specs.List.{concat}
 use Rattle.dactl_grammar.specs.Grammar.{choice, means}
 use Rattle.dactl_grammar.proofs.Holds.{Holds, holds_weaker, holds_row, holds_choice, holds_many, holds_means, holds_placed}
-use Rattle.dactl_syntax.specs.declared.token.Sort.{Sort}
-use Rattle.dactl_syntax.specs.declared.token.Sort.TheVariants as s
+use Rattle.dactl_terminals.specs.declared.token.Sort.{Sort}
+use Rattle.dactl_terminals.specs.declared.token.Sort.TheVariants as s
 use Rattle.dactl_meaning.specs.declared.tree.Name.{Name}
 use Rattle.dactl_meaning.specs.declared.tree.PatternTree.{PatternTree}
 use Rattle.dactl_meaning.specs.declared.tree.TermTree.{TermTree}
@@ -12,7 +12,8 @@ use Rattle.dactl_meaning.specs.declared.tree.Part.{Part}
 use Rattle.dactl_meaning.specs.declared.tree.Part.TheVariants as parts
 use Rattle.dactl_meaning.specs.declared.tree.RuleTree.{RuleTree}
 use Rattle.dactl_syntax.specs.declared.write_patterns.Standing.TheVariants as standing
-use Rattle.dactl_syntax.specs.Productions.{Part_of, sign, behind, before, pair, listed, lower, term, args, pattern, part_term, part_redirect, part, rewrites_of, redirects_of, rewriting, redirecting, rule_of, rule, group_of, group}
+use Rattle.dactl_terminals.specs.Parts.{Part_of, sign, behind, before, pair, listed, lower}
+use Rattle.dactl_syntax.specs.Productions.{term, args, pattern, part_term, part_redirect, part, rewrites_of, redirects_of, rewriting, redirecting, rule_of, rule, group_of, group}
 use Rattle.dactl_syntax.specs.Canonical.{word, comma, separated as separated_text, term_text, pattern_text, part_text, arrow_text, rule_text, group_text}
 use Rattle.dactl_meaning.specs.Unplaced.{nowhere, bare_name, bare_term, bare_pattern, bare_part, bare_rule, bare_group}
 use Rattle.dactl_syntax.proofs.Holding.{AreTold, split_told, Anything, holds_behind, holds_before}

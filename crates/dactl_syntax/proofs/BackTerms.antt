@@ -8,7 +8,7 @@ use Rattle.std.proofs.Math.Nat.{min-eq_left, min-le_right}
 use Rattle.dactl_base.specs.declared.refusal.Place.{Place}
 use Rattle.dactl_grammar.specs.Grammar.{maybe, many}
 use Rattle.dactl_grammar.proofs.Holds.{Holds, IfThere, holds_weaker, holds_one, holds_row, holds_choice, holds_maybe, holds_many, holds_means, holds_barred}
-use Rattle.dactl_syntax.specs.declared.token.Sort.TheVariants as s
+use Rattle.dactl_terminals.specs.declared.token.Sort.TheVariants as s
 use Rattle.dactl_meaning.specs.declared.tree.Name.{Name}
 use Rattle.dactl_meaning.specs.declared.tree.Marks.{Marks}
 use Rattle.dactl_meaning.specs.declared.tree.Marks.TheVariants as marks
@@ -19,7 +19,8 @@ use Rattle.dactl_meaning.specs.declared.tree.NodeTree.TheOpen.{NodeTree-F}
 use Rattle.dactl_meaning.specs.declared.tree.NodeTree.TheFolds.{fold-roll-NodeTree, fold-roll-ArgTree, fold-roll-TermTree}
 use Rattle.dactl_meaning.specs.declared.tree.TermTree.{TermTree, roll-TermTree}
 use Rattle.dactl_meaning.specs.declared.tree.ArgTree.{ArgTree, roll-ArgTree}
-use Rattle.dactl_syntax.specs.Productions.{Tok, Part_of, is, here, sign, behind, before, upper, lower, name_of, star_of, hashes_of, counted, mark, integer_of, letter, value_at, letter_of, sym_of, node, named_of, bare_of, body, term_of, term, arg_of, arg, args}
+use Rattle.dactl_terminals.specs.Parts.{Tok, Part_of, is, here, sign, behind, before, upper, lower, name_of, value_at}
+use Rattle.dactl_syntax.specs.Productions.{star_of, hashes_of, counted, mark, integer_of, letter, letter_of, sym_of, node, named_of, bare_of, body, term_of, term, arg_of, arg, args}
 use Rattle.dactl_syntax.specs.Canonical.{word, character, bracketed, repeated, marks_text, body_text, node_level, arg_level, term_level, node_text, arg_text, term_text}
 use Rattle.dactl_meaning.specs.Unplaced.{bare_name, bare_marks, bare_node_level, bare_arg_level, bare_term_level, bare_node, bare_arg, bare_term, nowhere}
 use Rattle.dactl_syntax.proofs.Holding.{AreTold, split_told, holds_anything, holds_behind, holds_before}
@@ -116,8 +117,8 @@ module _ (wide : Bool) where
   args_text given = word (codes "[") ++ (concat (map arg_text given) ++ word (codes "]"))
 
   -- the same nodes, up to places
-  same_integer : (t u : Tok) → value_at u.word ≡ value_at t.word → bare_node (integer_of u) ≡ bare_node (integer_of t)
-  same_integer t u e = bare_integer (value_at u.word) (here u) ∙ ap (λ (z : ℤ). node_tree.Integer z nowhere) e ∙ sym (bare_integer (value_at t.word) (here t))
+  same_integer : (t u : Tok) → value_at true u.word ≡ value_at true t.word → bare_node (integer_of u) ≡ bare_node (integer_of t)
+  same_integer t u e = bare_integer (value_at true u.word) (here u) ∙ ap (λ (z : ℤ). node_tree.Integer z nowhere) e ∙ sym (bare_integer (value_at true t.word) (here t))
 
   same_letter : (t u : Tok) → letter u.word ≡ letter t.word → bare_node (letter_of u) ≡ bare_node (letter_of t)
   same_letter t u e = bare_letter (letter u.word) (here u) ∙ ap (λ (z : ℕ). node_tree.Letter z nowhere) e ∙ sym (bare_letter (letter t.word) (here t))
@@ -178,8 +179,8 @@ module _ (wide : Bool) where
 
     node_reads : ReadsBack (node inner) node_text bare_node
     node_reads = holds_choice
-        (holds_means integer_of (λ n. Back wide (node inner) (node_text n) (SameBy bare_node n)) (λ t h. back_bytes _ _ (text_integer (value_at t.word) (here t))
-        (back_left (back_means integer_of (SameBy bare_node (integer_of t)) (λ u k. same_integer t u k) (integer_back wide (value_at t.word) (h.0.0.value h.1))))) (holds_one (is s.Integer)))
+        (holds_means integer_of (λ n. Back wide (node inner) (node_text n) (SameBy bare_node n)) (λ t h. back_bytes _ _ (text_integer (value_at true t.word) (here t))
+        (back_left (back_means integer_of (SameBy bare_node (integer_of t)) (λ u k. same_integer t u k) (integer_back wide (value_at true t.word) (h.0.0.value h.1))))) (holds_one (is s.Integer)))
         (holds_choice (holds_means letter_of (λ n. Back wide (node inner) (node_text n) (SameBy bare_node n)) (λ t h. back_bytes _ _ (text_letter (letter t.word) (here t))
         (back_right (back_left (back_means letter_of (SameBy bare_node (letter_of t)) (λ u k. same_letter t u k) (character_back wide t.word (h.0.0.character h.1)))))) (holds_one (is s.Character)))
         (holds_means sym_of (λ n. Back wide (node inner) (node_text n) (SameBy bare_node n)) (λ v h. back_bytes _ _ (text_sym v.0 (unwrap_or v.1 [])) (sym_back v.0 v.1 h.0 h.1)) (holds_row (split_told wide) upper_reads (λ _. holds_maybe inner_reads))))

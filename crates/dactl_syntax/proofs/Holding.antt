@@ -1,8 +1,9 @@
 -- What holds of the meanings of the parts holds of the meaning of the whole: for a token before and behind a part, and for lists.
 use Rattle.std.proofs.Common.{◌≡◌, ℕ, ◌+◌, ◌<◌, Bool, true, false, List, [], ◌∷◌, ◌++◌, length, map, cond, refl, arith}
 use Rattle.std.specs.List.{AllByRecursion as Each, filter, flat_map, enumerate_from}
-use Rattle.dactl_syntax.specs.declared.token.Sort.{Sort}
-use Rattle.dactl_syntax.specs.Productions.{Tok, Part_of, is, behind, before, listed, several, separated}
+use Rattle.dactl_terminals.specs.declared.token.Sort.{Sort}
+use Rattle.dactl_terminals.specs.Parts.{Tok, Part_of, is, behind, before, listed, separated}
+use Rattle.dactl_syntax.specs.Productions.{several}
 use Rattle.dactl_syntax.proofs.TokenFacts.{IsTold}
 use Rattle.dactl_grammar.proofs.Holds.{Splits, Holds, holds_one, holds_row, holds_means, holds_many}
 

@@ -4,7 +4,7 @@ use Rattle.std.specs.List.{AllByRecursion as Each, flat_map}
 use Rattle.std.proofs.lemmas.List.Elements.{All-from_recursion}
 use Rattle.dactl_grammar.specs.Grammar.{one, WholeRow, choice, maybe, means, placed, place_of as first_place}
 use Rattle.dactl_grammar.proofs.Holds.{Splits, Holds, IfThere, holds_weaker, holds_one, holds_row, holds_choice, holds_maybe, holds_many, holds_means, holds_barred}
-use Rattle.dactl_syntax.specs.declared.token.Sort.TheVariants as s
+use Rattle.dactl_terminals.specs.declared.token.Sort.TheVariants as s
 use Rattle.dactl_meaning.specs.declared.tree.Name.{Name}
 use Rattle.dactl_meaning.specs.declared.tree.Sign.{Sign}
 use Rattle.dactl_meaning.specs.declared.tree.PatternTree.{PatternTree}
@@ -20,14 +20,14 @@ use Rattle.dactl_meaning.specs.declared.tree.Item.{Item}
 use Rattle.dactl_meaning.specs.declared.tree.Item.TheVariants as item
 use Rattle.dactl_meaning.specs.declared.tree.Module.{Module}
 use Rattle.dactl_meaning.specs.declared.tree.Text.{Text}
-use Rattle.dactl_syntax.specs.Productions.{Tok, Part_of, is, sign, behind, before, pair, upper, lower, name_of, term, args, any_of, int_of, char_of, number_of, letter, value_at, character_of, pattern_sym_of, base, piece_at, piece_of, piece, operator, chain_at, chain_of, pattern_over, squares, rounds, pattern, part_term, part_redirect, part, rewrites_of, redirects_of, rewriting, redirecting, rule_of, rule, group_of, group, imports_of, symbols_of, pattern_named_of, rules_of, rules, initial_of, an_item, is_name, module_of, a_module, language_of, text}
+use Rattle.dactl_terminals.specs.Parts.{Tok, Part_of, is, sign, behind, before, pair, upper, lower, name_of, value_at}
+use Rattle.dactl_syntax.specs.Productions.{term, args, any_of, int_of, char_of, number_of, letter, character_of, pattern_sym_of, base, piece_at, piece_of, piece, operator, chain_at, chain_of, pattern_over, squares, rounds, pattern, part_term, part_redirect, part, rewrites_of, redirects_of, rewriting, redirecting, rule_of, rule, group_of, group, imports_of, symbols_of, pattern_named_of, rules_of, rules, initial_of, an_item, is_name, module_of, a_module, language_of, text}
 use Rattle.dactl_meaning.specs.Expansion.{Occurrence, occurrences_level, occurrences_in, occurrences}
 use Rattle.dactl_meaning.specs.RuleFaults.{place_of, widths_level, widths, lefts_of}
 use Rattle.dactl_meaning.specs.Contractum.{name_list, left_of_part}
 use Rattle.dactl_meaning.specs.Order.{pattern_places, left_places, IsInOrder, PlacesInOrder}
 use Rattle.dactl_meaning.specs.Declarations.{groups, rules as all_rules}
-use Rattle.dactl_syntax.specs.Seen.{tokens_seen}
-use Rattle.dactl_syntax.specs.Answer.{most_open}
+use Rattle.dactl_syntax.specs.Answer.{tokens_seen, most_open}
 use Rattle.dactl_syntax.specs.Laws.{Reads}
 use Rattle.dactl_syntax.proofs.TokenFacts.{RisesFrom, rises_sooner, tokens_are_seen}
 use Rattle.dactl_syntax.proofs.Holding.{holds_anything, holds_behind, holds_before, Some_of, holds_listed, holds_several, holds_separated, each_append, each_split, each_weaker, each_map, each_flat}
@@ -105,7 +105,7 @@ module _ (G : ℕ → Type 0) where
   char_placed = from_layer p.Char PatternTree-F.Char rolls-Char (λ choice. tt) tt
 
   number_placed : (t : Tok) → IsPlaced (number_of t)
-  number_placed t = from_layer (p.Integer (value_at t.word)) (PatternTree-F.Integer (value_at t.word)) (rolls-Integer (value_at t.word)) (λ choice. tt) tt
+  number_placed t = from_layer (p.Integer (value_at true t.word)) (PatternTree-F.Integer (value_at true t.word)) (rolls-Integer (value_at true t.word)) (λ choice. tt) tt
 
   character_placed : (t : Tok) → IsPlaced (character_of t)
   character_placed t = from_layer (p.Letter (letter t.word)) (PatternTree-F.Letter (letter t.word)) (rolls-Letter (letter t.word)) (λ choice. tt) tt

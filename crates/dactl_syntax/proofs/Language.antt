@@ -3,16 +3,16 @@ use Rattle.std.proofs.Common.{◌≡◌, ℕ, Bool, true, false, cond, List, [],
 use Rattle.std.specs.Prelude.{◌==◌}
 use Rattle.dactl_grammar.specs.Grammar.{WholeMaybe}
 use Rattle.dactl_tokens.specs.Lexes.{has_header}
-use Rattle.dactl_syntax.specs.declared.token.Sort.TheVariants as s
+use Rattle.dactl_terminals.specs.declared.token.Sort.TheVariants as s
 use Rattle.dactl_meaning.specs.declared.tree.Module.{Module}
 use Rattle.dactl_meaning.specs.declared.tree.Text.{Text}
 use Rattle.dactl_meaning.specs.Meaning.{is_wide}
-use Rattle.dactl_syntax.specs.Sort.{same_sort}
-use Rattle.dactl_syntax.specs.Productions.{Tok, sign, several, a_module, language_of}
-use Rattle.dactl_syntax.specs.Seen.{tokens_seen}
-use Rattle.dactl_syntax.specs.Answer.{most_open}
+use Rattle.dactl_terminals.specs.Sort.{same_sort}
+use Rattle.dactl_terminals.specs.Parts.{Tok, sign}
+use Rattle.dactl_syntax.specs.Productions.{several, a_module, language_of}
+use Rattle.dactl_syntax.specs.Answer.{tokens_seen, most_open}
 use Rattle.dactl_syntax.specs.Laws.{Reads}
-use Rattle.dactl_syntax.proofs.Sorts.{apart}
+use Rattle.dactl_terminals.proofs.Sorts.{apart}
 use Rattle.dactl_syntax.proofs.TokenFacts.{StartsAs, tokens_are_seen, tokens_start}
 use Rattle.dactl_syntax.proofs.Holding.{AreTold, split_told}
 use Rattle.dactl_syntax.proofs.ModuleLaws.{fit_modules}

@@ -1,5 +1,3 @@
-pub mod Sorts
-pub mod Fits
 pub mod TermLaws
 pub mod PatternLaws
 pub mod RuleLaws

@@ -2,19 +2,22 @@
 use Rattle.std.proofs.Common.{◌≡◌, ℕ, Bool, true, false, inl, inr, List, [], ◌∷◌, refl}
 use Rattle.std.specs.Prelude.{◌||◌, is_some}
 use Rattle.std.specs.Str.{bytes_eq}
-use Rattle.dactl_syntax.specs.declared.token.Sort.{Sort}
-use Rattle.dactl_syntax.specs.declared.token.Sort.TheVariants as s
+use Rattle.dactl_terminals.specs.declared.token.Sort.{Sort}
+use Rattle.dactl_terminals.specs.declared.token.Sort.TheVariants as s
 use Rattle.dactl_meaning.specs.declared.tree.Name.{Name}
-use Rattle.dactl_syntax.specs.Sort.{same_sort, starts_term, starts_piece, is_class, starts_item}
+use Rattle.dactl_terminals.specs.Sort.{same_sort}
+use Rattle.dactl_syntax.specs.Sort.{starts_term, starts_piece, is_class, starts_item}
 use Rattle.dactl_grammar.specs.Grammar.{StartsOne, one, row, choice, maybe, many, means}
 use Rattle.dactl_grammar.specs.Reader.{read_one}
-use Rattle.dactl_syntax.specs.Productions.{Tok, is, sign, behind, before, pair, several, separated, upper, term, args, pattern, group, names, imports_of, imports, class_at, class, symbols_of, symbols, pattern_named_of, named, rules_of, rules, initial_of, initial, an_item, is_name, module_of, a_module, language_of, text}
-use Rattle.dactl_syntax.specs.Reading.{by, comma_upper_at, comma_term_at, terms_at, items_at, names_at, imports_at, class_reads, public_class_at, public_at, symbols_at, named_at, rules_at, initial_at, item_at, module_end, module_at, modules_at, language_at, text_at}
+use Rattle.dactl_terminals.specs.Parts.{Tok, is, sign, behind, before, pair, separated, upper, names}
+use Rattle.dactl_syntax.specs.Productions.{several, term, args, pattern, group, imports_of, imports, class_at, class, symbols_of, symbols, pattern_named_of, named, rules_of, rules, initial_of, initial, an_item, is_name, module_of, a_module, language_of, text}
+use Rattle.dactl_terminals.specs.Reads.{by}
+use Rattle.dactl_syntax.specs.Reading.{comma_term_at, terms_at, items_at, imports_at, class_reads, public_class_at, public_at, symbols_at, named_at, rules_at, initial_at, item_at, module_end, module_at, modules_at, language_at, text_at}
 use Rattle.dactl_grammar.proofs.Exact.{exact_one}
-use Rattle.dactl_syntax.proofs.Sorts.{first_of_and}
-use Rattle.dactl_syntax.proofs.Fits.{none, Solid, Fit, fit_sign, solid_sign, solid_means, solid_row_first, solid_row_second, a_row, a_choice, a_maybe, a_many, a_meaning}
-use Rattle.dactl_syntax.proofs.TermLaws.{goes_on_term, solid_choice_of, fit_upper, solid_upper, solid_behind}
-use Rattle.dactl_syntax.proofs.PatternLaws.{a_before, a_behind, a_list, solid_listed, solid_before, fit_pattern_at, solid_pattern_at}
+use Rattle.dactl_terminals.proofs.Sorts.{first_of_and}
+use Rattle.dactl_terminals.proofs.Fits.{none, Solid, Fit, fit_sign, solid_sign, solid_means, solid_row_first, solid_row_second, a_row, a_choice, a_maybe, a_many, a_meaning, solid_choice_of, fit_upper, solid_upper, solid_behind, a_before, a_behind, a_list, solid_listed, solid_before, fit_names, solid_names}
+use Rattle.dactl_syntax.proofs.TermLaws.{goes_on_term}
+use Rattle.dactl_syntax.proofs.PatternLaws.{fit_pattern_at, solid_pattern_at}
 use Rattle.dactl_syntax.proofs.RuleLaws.{fit_term_at, solid_term_at, solid_group, fit_groups}
 
 -- a token that a test of its own picks
@@ -35,26 +38,11 @@ fit_language = a_meaning language_of (a_maybe (same_sort s.Header) (fit_sign s.H
 abbrev starts_text : Sort → Bool
 starts_text t = same_sort s.Header t || same_sort s.Module t
 
-abbrev goes_on_list : Sort → Bool
-goes_on_list s.Comma = true
-goes_on_list _ = false
-
 abbrev goes_on_terms : Sort → Bool
 goes_on_terms s.Comma = true
 goes_on_terms s.Colon = true
 goes_on_terms s.Open = true
 goes_on_terms _ = false
-
-pub fit_comma_upper : Fit (behind s.Comma upper) comma_upper_at (same_sort s.Comma) none
-unfolding same_sort comma_upper_at
-fit_comma_upper = a_behind s.Comma fit_upper solid_upper refl refl refl
-
-pub fit_names : Fit names names_at (same_sort s.Upper) goes_on_list
-unfolding same_sort names_at
-fit_names = a_list goes_on_list fit_upper solid_upper fit_comma_upper (solid_behind s.Comma upper) refl refl refl refl refl refl refl
-
-pub solid_names : Solid names
-solid_names = solid_means (λ v. v.0 ∷ v.1) (pair upper (many (behind s.Comma upper))) (solid_row_first upper (λ _. many (behind s.Comma upper)) solid_upper)
 
 pub fit_imports : Fit imports imports_at (same_sort s.Imports) none
 unfolding same_sort imports_at

@@ -8,7 +8,7 @@ use Rattle.std.proofs.lemmas.List.Elements.{All-from_recursion}
 use Rattle.dactl_model.specs.Integers.{is_word}
 use Rattle.dactl_grammar.specs.Grammar.{one, maybe, means}
 use Rattle.dactl_grammar.proofs.Holds.{Holds, IfThere, holds_one, holds_row, holds_choice, holds_maybe, holds_many, holds_means, holds_barred, holds_placed}
-use Rattle.dactl_syntax.specs.declared.token.Sort.TheVariants as s
+use Rattle.dactl_terminals.specs.declared.token.Sort.TheVariants as s
 use Rattle.dactl_meaning.specs.declared.tree.Name.{Name}
 use Rattle.dactl_meaning.specs.declared.tree.Marks.{Marks}
 use Rattle.dactl_meaning.specs.declared.tree.Marks.TheVariants as marks
@@ -33,7 +33,8 @@ use Rattle.dactl_meaning.specs.declared.tree.Item.{Item}
 use Rattle.dactl_meaning.specs.declared.tree.Item.TheVariants as item
 use Rattle.dactl_meaning.specs.declared.tree.Module.{Module}
 use Rattle.dactl_meaning.specs.declared.tree.Text.{Text}
-use Rattle.dactl_syntax.specs.Productions.{Tok, Part_of, is, here, sign, behind, before, several, upper, lower, mark, value_at, integer_of, letter_of, sym_of, node, named_of, bare_of, body, term_of, term, arg_of, arg, args, any_of, int_of, char_of, number_of, character_of, pattern_sym_of, base, piece_at, piece_of, piece, operator, chain_at, chain_of, pattern_over, squares, rounds, pattern, part_term, part_redirect, part, rewrites_of, redirects_of, rewriting, redirecting, rule_of, rule, group_of, group, imports_of, symbols_of, pattern_named_of, named, rules_of, rules, initial_of, initial, an_item, is_name, module_of, a_module}
+use Rattle.dactl_terminals.specs.Parts.{Tok, Part_of, is, here, sign, behind, before, upper, lower, value_at}
+use Rattle.dactl_syntax.specs.Productions.{several, mark, integer_of, letter_of, sym_of, node, named_of, bare_of, body, term_of, term, arg_of, arg, args, any_of, int_of, char_of, number_of, character_of, pattern_sym_of, base, piece_at, piece_of, piece, operator, chain_at, chain_of, pattern_over, squares, rounds, pattern, part_term, part_redirect, part, rewrites_of, redirects_of, rewriting, redirecting, rule_of, rule, group_of, group, imports_of, symbols_of, pattern_named_of, named, rules_of, rules, initial_of, initial, an_item, is_name, module_of, a_module}
 use Rattle.dactl_meaning.specs.Spelling.{pattern_narrow, is_narrow_pattern, node_narrow, arg_narrow, term_narrow, is_narrow_term, contracta, all_patterns, IsNarrowText}
 use Rattle.dactl_meaning.specs.Contractum.{term_of_part}
 use Rattle.dactl_meaning.specs.Declarations.{PlacedRule, rules as all_rules}
@@ -52,7 +53,7 @@ split = split_told false
 
 -- ---- integers and characters
 
-word_within : (z : ℤ) → mag z < 2 ^ 63 → is_word z ≡ true
+pub word_within : (z : ℤ) → mag z < 2 ^ 63 → is_word z ≡ true
 word_within (pos n) h = lt-ltb n (2 ^ 63) h
 word_within (negsuc n) h = rw (le-leb n (2 ^ 63 - 1) (omega arith)) refl
 
@@ -86,8 +87,8 @@ args_narrow (a ∷ given) h = rw (h.0, args_narrow given h.1) refl
 sym_narrow : (name : Name) (given : List ArgTree) → Each IsNarrowArg given → IsNarrowNode (node_tree.Sym name given)
 sym_narrow name given h = ap narrow_node (sym (rolls-Sym name given)) ∙ fold-roll-NodeTree Bool Bool Bool node_narrow arg_narrow term_narrow (NodeTree-F.Sym name given) ∙ args_narrow given h
 
-integer_narrow : (t : Tok) → mag (value_at t.word) < 2 ^ 63 → IsNarrowNode (integer_of t)
-integer_narrow t h = ap narrow_node (sym (rolls-Integer (value_at t.word) (here t))) ∙ fold-roll-NodeTree Bool Bool Bool node_narrow arg_narrow term_narrow (NodeTree-F.Integer (value_at t.word) (here t)) ∙ word_within (value_at t.word) h
+integer_narrow : (t : Tok) → mag (value_at true t.word) < 2 ^ 63 → IsNarrowNode (integer_of t)
+integer_narrow t h = ap narrow_node (sym (rolls-Integer (value_at true t.word) (here t))) ∙ fold-roll-NodeTree Bool Bool Bool node_narrow arg_narrow term_narrow (NodeTree-F.Integer (value_at true t.word) (here t)) ∙ word_within (value_at true t.word) h
 
 given_narrow : (v : Name × Option (List ArgTree)) → IfThere (Each IsNarrowArg) v.1 → IsNarrowNode (sym_of v)
 given_narrow v h = sym_narrow v.0 (unwrap_or v.1 []) (given v.1 h)
@@ -168,7 +169,7 @@ module _ (square : Part_of (List PatternTree)) (round : Part_of PatternTree) (sq
       holds_choice (holds_means any_of IsNarrowPattern (λ t h. level p.Any PatternTree-F.Any rolls-Any refl) (holds_one (is s.Any)))
       (holds_choice (holds_means int_of IsNarrowPattern (λ t h. level p.Int PatternTree-F.Int rolls-Int refl) (holds_one (is s.Int)))
       (holds_choice (holds_means char_of IsNarrowPattern (λ t h. no_char t h.0.0 h.1) (holds_one (is s.Char)))
-      (holds_choice (holds_means number_of IsNarrowPattern (λ t h. level (p.Integer (value_at t.word)) (PatternTree-F.Integer (value_at t.word)) (rolls-Number (value_at t.word)) (word_within (value_at t.word) (h.0.0.value h.1))) (holds_one (is s.Integer)))
+      (holds_choice (holds_means number_of IsNarrowPattern (λ t h. level (p.Integer (value_at true t.word)) (PatternTree-F.Integer (value_at true t.word)) (rolls-Number (value_at true t.word)) (word_within (value_at true t.word) (h.0.0.value h.1))) (holds_one (is s.Integer)))
       (holds_choice (holds_means character_of IsNarrowPattern (λ t h. no_character t h.0.0 h.1) (holds_one (is s.Character)))
       (holds_choice (holds_means pattern_sym_of IsNarrowPattern (λ v h. symbol_narrow v.0 v.1 h.1) (holds_row split (holds_anything upper) (λ _. holds_maybe square_keeps))) round_keeps)))))
 

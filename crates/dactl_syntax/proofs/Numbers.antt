@@ -1,54 +1,20 @@
 -- The decimal text of an integer spells it.
-use Rattle.std.proofs.Common.{◌≡◌, ℕ, zero, suc, ◌+◌, ◌-◌, ◌*◌, ◌/◌, ◌%◌, ◌^◌, ◌<◌, ◌≤◌, Bool, true, false, cond, List, [], ◌∷◌, ◌++◌, Some, refl, sym, ap, subst, ◌∙◌, arith}
+use Rattle.std.proofs.Common.{◌≡◌, ℕ, suc, ◌+◌, ◌-◌, ◌*◌, ◌/◌, ◌%◌, ◌^◌, ◌<◌, ◌≤◌, Bool, true, false, cond, List, [], ◌∷◌, ◌++◌, Some, refl, sym, ap, subst, ◌∙◌, arith}
 use Rattle.std.specs.Prelude.{◌==◌, nat_le, nat_lt, ℤ, pos, negsuc, ◌-ℤ◌}
 use Rattle.std.specs.Int.Signed.{mag}
 use Rattle.std.specs.Fmt.{decimal as text_of, signed_decimal}
 use Rattle.std.proofs.Math.Nat.{div-add-mod, mod-lt}
-use Rattle.std.proofs.lemmas.Bool.{ltb-false, leb-true, leb-false, le-leb, lt-leb, le-ltb, lt-ltb, ne_eqb}
+use Rattle.std.proofs.lemmas.Bool.{leb-true, le-leb, lt-leb, le-ltb, ne_eqb}
 use Rattle.std.proofs.lemmas.Fmt.{decimal_by_steps_wide}
 use Rattle.dactl_model.proofs.Unique.{left_true, right_true}
 use Rattle.dactl_tokens.specs.declared.token.TokenKind.TheVariants.{Integer}
 use Rattle.dactl_tokens.specs.Spelling.{is_upper, is_lower, is_digit, all, is_long_sign, kind_of, decimal, bound, is_too_wide, value_of}
-use Rattle.dactl_syntax.specs.Productions.{value_at}
-
--- ---- values are within the bounds of their language
-
--- the number after 0 - n
-pub minus_is : (n : ℕ) → pos 0 -ℤ pos (suc n) ≡ negsuc n
-minus_is n =
-    let less : suc n - suc 0 ≡ n = omega arith in
-    ap (λ (b : Bool). cond b (negsuc (suc n - suc 0)) (pos (0 - suc n))) (lt-ltb 0 (suc n) (omega arith)) ∙ ap negsuc less
-
-some_bound : (wide : Bool) → 0 < bound wide
-some_bound true = omega arith
-some_bound false = omega arith
+use Rattle.dactl_terminals.specs.Parts.{value_at}
+use Rattle.dactl_terminals.proofs.Values.{minus_is}
 
 most_bound : (wide : Bool) → bound wide ≤ 2 ^ 127
 most_bound true = omega arith
 most_bound false = omega arith
-
-negative_within : (most n : ℕ) → 0 < most → n ≤ most → mag (pos 0 -ℤ pos n) < most
-negative_within most zero some h = some
-negative_within most (suc n) some h = let e = ap mag (minus_is n) in omega arith
-
--- a number that is not past the bound is not past a greater one, and is its own value
-seen_within : (minus : Bool) (most m n : ℕ) → 0 < most → cond minus (nat_lt most m) (nat_le most n) ≡ false
-    → mag (cond (cond minus (nat_lt (2 ^ 127) m) (nat_le (2 ^ 127) n)) (pos 0) (cond minus (pos 0 -ℤ pos m) (pos n))) < most
-seen_within true most m n some h = at (nat_lt (2 ^ 127) m)
-  where
-    at : (b : Bool) → mag (cond b (pos 0) (pos 0 -ℤ pos m)) < most
-    at true = some
-    at false = negative_within most m some (ltb-false most m h)
-seen_within false most m n some h = at (nat_le (2 ^ 127) n)
-  where
-    at : (b : Bool) → mag (cond b (pos 0) (pos n)) < most
-    at true = some
-    at false = leb-false most n h
-
-pub value_within : (wide : Bool) (w : List ℕ) → is_too_wide wide w ≡ false → mag (value_at w) < bound wide
-unfolding is_too_wide
-value_within wide [] h = some_bound wide
-value_within wide (b ∷ w) h = seen_within (b == 45) (bound wide) (decimal 0 w) (decimal 0 (b ∷ w)) (some_bound wide) h
 
 -- ---- digits
 
@@ -96,7 +62,7 @@ text_digits n h = decimal_by_steps_wide AreDigits one_digit more_digits n h
 pub record SpellsInteger (wide : Bool) (z : ℤ) (w : List ℕ) : Type 0 where
   pub kind : kind_of wide w ≡ Some Integer
   pub fits : is_too_wide wide w ≡ false
-  pub value : value_at w ≡ z
+  pub value : value_at true w ≡ z
 
 digit_low : (b : ℕ) → is_digit b ≡ true → 48 ≤ b
 digit_low b h = leb-true 48 b (left_true (nat_le 48 b) (nat_le b 57) h)

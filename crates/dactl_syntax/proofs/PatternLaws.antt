@@ -1,17 +1,18 @@
 -- Reading patterns, rules, items and modules is exact for their grammar.
-use Rattle.std.proofs.Common.{◌≡◌, ℕ, zero, suc, Bool, true, false, inl, inr, List, ◌∷◌, refl}
+use Rattle.std.proofs.Common.{ℕ, zero, suc, Bool, true, false, inl, inr, List, refl}
 use Rattle.std.specs.Prelude.{◌||◌}
-use Rattle.dactl_syntax.specs.declared.token.Sort.{Sort}
-use Rattle.dactl_syntax.specs.declared.token.Sort.TheVariants as s
+use Rattle.dactl_terminals.specs.declared.token.Sort.{Sort}
+use Rattle.dactl_terminals.specs.declared.token.Sort.TheVariants as s
 use Rattle.dactl_meaning.specs.declared.tree.PatternTree.{PatternTree}
-use Rattle.dactl_syntax.specs.Sort.{same_sort, starts_base, starts_piece, is_sign}
+use Rattle.dactl_terminals.specs.Sort.{same_sort}
+use Rattle.dactl_syntax.specs.Sort.{starts_base, starts_piece, is_sign}
 use Rattle.dactl_grammar.specs.Grammar.{choice, maybe, many, means}
 use Rattle.dactl_grammar.specs.Reader.{read_many}
-use Rattle.dactl_syntax.specs.Productions.{Tok, Part_of, sign, behind, before, pair, listed, upper, lower, any_of, int_of, char_of, number_of, character_of, pattern_sym_of, base, piece_of, piece, plus_of, minus_of, operator, chain_of, pattern_over, squares, rounds, pattern}
-use Rattle.dactl_syntax.specs.Reading.{Reads, by, read_behind, read_before, read_listed, read_base, read_piece, operator_at, read_pattern, squares_at, rounds_at, pattern_at}
-use Rattle.dactl_syntax.proofs.Sorts.{every, bars, implies, clears}
-use Rattle.dactl_syntax.proofs.Fits.{none, Solid, Fit, fit_sign, solid_sign, solid_means, solid_row_first, solid_row_second, fit_barred, solid_barred, a_row, a_choice, a_maybe, a_many, a_meaning}
-use Rattle.dactl_syntax.proofs.TermLaws.{solid_choice_of, fit_upper, fit_lower, solid_upper, solid_lower, fit_behind, solid_behind}
+use Rattle.dactl_terminals.specs.Parts.{Tok, Part_of, sign, behind, before, pair, upper, lower}
+use Rattle.dactl_syntax.specs.Productions.{any_of, int_of, char_of, number_of, character_of, pattern_sym_of, base, piece_of, piece, plus_of, minus_of, operator, chain_of, pattern_over, squares, rounds, pattern}
+use Rattle.dactl_terminals.specs.Reads.{Reads, by, read_behind, read_before}
+use Rattle.dactl_syntax.specs.Reading.{read_base, read_piece, operator_at, read_pattern, squares_at, rounds_at, pattern_at}
+use Rattle.dactl_terminals.proofs.Fits.{none, Solid, Fit, fit_sign, solid_sign, solid_means, solid_row_first, fit_barred, solid_barred, a_row, a_choice, a_maybe, a_many, a_meaning, solid_choice_of, fit_upper, fit_lower, solid_upper, solid_lower, solid_behind, a_before, a_behind, solid_before}
 
 abbrev pub goes_on_piece : Sort → Bool
 goes_on_piece s.Colon = true
@@ -30,24 +31,6 @@ goes_on_pieces t = starts_piece t || goes_on_piece t
 
 abbrev pub starts_piece_or_close : Sort → Bool
 starts_piece_or_close t = starts_piece t || same_sort s.Close t
-
--- a part before a token
-pub a_before : {A : Type 0} {P : Part_of A} {R : Reads A} {f m : Sort → Bool} (k : Sort) → Fit P R f m → Solid P → every (bars (same_sort k) m) ≡ true → every (clears none none) ≡ true → every (implies f f) ≡ true → Fit (before P k) (read_before R k) f none
-a_before {A} {P} {R} {f} {m} k p sp a b c = a_meaning (λ (v : A × Tok). v.0) (a_row f none p (λ _. fit_sign k) a b (inl (λ _. solid_sign k)) c (inl sp))
-
-pub a_behind : {A : Type 0} {P : Part_of A} {R : Reads A} {f m : Sort → Bool} (k : Sort) → Fit P R f m → Solid P → every (bars f none) ≡ true → every (clears m m) ≡ true → every (implies (same_sort k) (same_sort k)) ≡ true → Fit (behind k P) (read_behind k R) (same_sort k) m
-a_behind {A} {P} {R} {f} {m} k p sp a b c = fit_behind k P R f m p sp a b c
-
-pub solid_before : {A : Type 0} (P : Part_of A) (k : Sort) → Solid (before P k)
-solid_before P k = solid_means (λ v. v.0) (pair P (sign k)) (solid_row_second P (λ _. sign k) (λ _. solid_sign k))
-
-pub a_list : {A : Type 0} {P Q : Part_of A} {R S : Reads A} {f m g n : Sort → Bool} (more : Sort → Bool)
-    → Fit P R f m → Solid P → Fit Q S g n → Solid Q → every (bars g m) ≡ true → every (bars g n) ≡ true → every (clears g more) ≡ true → every (clears n more) ≡ true → every (clears m more) ≡ true → every (clears more more) ≡ true → every (implies f f) ≡ true → Fit (listed P Q) (read_listed g R S) f more
-a_list {A} {P} {Q} {R} {S} {f} {m} {g} {n} more p sp q sq a b c d e h k =
-    a_meaning (λ (v : A × List A). v.0 ∷ v.1) (a_row f more p (λ _. a_many more q sq b c d) a h (inr e) k (inl sp))
-
-pub solid_listed : {A : Type 0} (P Q : Part_of A) → Solid P → Solid (listed P Q)
-solid_listed P Q p = solid_means (λ v. v.0 ∷ v.1) (pair P (many Q)) (solid_row_first P (λ _. many Q) p)
 
 -- ---- patterns
 

@@ -1,13 +1,14 @@
 -- What the loops and the steps over brackets of patterns cite.
 use Rattle.std.proofs.Common.{◌≡◌, ℕ, zero, suc, ◌-◌, ◌<◌, List, refl, arith, inl}
-use Rattle.dactl_syntax.specs.declared.token.Sort.TheVariants as s
+use Rattle.dactl_terminals.specs.declared.token.Sort.TheVariants as s
 use Rattle.dactl_syntax.specs.Sort.{is_sign, starts_piece}
-use Rattle.dactl_syntax.specs.Productions.{Tok, operator, piece, squares, rounds}
-use Rattle.dactl_syntax.specs.Reading.{read_behind, read_before, piece_reads, link_at, pieces_at, pattern_at, squares_at, rounds_at}
-use Rattle.dactl_syntax.proofs.Fits.{Fit, Solid, a_row, solid_row_first}
+use Rattle.dactl_terminals.specs.Parts.{Tok}
+use Rattle.dactl_syntax.specs.Productions.{operator, piece, squares, rounds}
+use Rattle.dactl_terminals.specs.Reads.{read_behind, read_before}
+use Rattle.dactl_syntax.specs.Reading.{piece_reads, link_at, pieces_at, pattern_at, squares_at, rounds_at}
+use Rattle.dactl_terminals.proofs.Fits.{Fit, Solid, a_row, solid_row_first, shrinks}
 use Rattle.dactl_syntax.proofs.PatternLaws.{goes_on_piece, fit_piece, solid_piece, fit_operator, solid_operator, fit_squares, fit_rounds, solid_squares, solid_rounds}
 use Rattle.dactl_grammar.proofs.Loop.{Shrinks}
-use Rattle.dactl_syntax.proofs.Fits.{shrinks}
 
 pub fit_piece_at : (n : ℕ) → Fit (piece (squares n) (rounds n)) (piece_reads n) starts_piece goes_on_piece
 unfolding piece_reads

@@ -2,20 +2,23 @@
 use Rattle.std.proofs.Common.{◌≡◌, ℕ, suc, Bool, true, false, ◌⊎◌, inl, inr, List, [], ◌∷◌, ◌++◌, length, None, Err, refl, arith}
 use Rattle.std.specs.Prelude.{◌||◌, ◌&&◌}
 use Rattle.dactl_grammar.specs.declared.fault.Fault.TheVariants.{Unexpected}
-use Rattle.dactl_syntax.specs.declared.token.Sort.{Sort}
-use Rattle.dactl_syntax.specs.declared.token.Sort.TheVariants as s
+use Rattle.dactl_terminals.specs.declared.token.Sort.{Sort}
+use Rattle.dactl_terminals.specs.declared.token.Sort.TheVariants as s
 use Rattle.dactl_meaning.specs.declared.tree.Part.{Part}
-use Rattle.dactl_syntax.specs.Sort.{same_sort, starts_mark, starts_term, starts_piece}
+use Rattle.dactl_terminals.specs.Sort.{same_sort}
+use Rattle.dactl_syntax.specs.Sort.{starts_mark, starts_term, starts_piece}
 use Rattle.dactl_grammar.specs.Grammar.{choice, means, placed}
 use Rattle.dactl_grammar.specs.Reader.{left, read_as}
-use Rattle.dactl_syntax.specs.Productions.{Tok, Part_of, is, behind, before, pair, listed, several, separated, lower, term, args, part_term, part_redirect, part, rewrites_of, redirects_of, rewriting, redirecting, rule_of, rule, group_of, group, pattern}
-use Rattle.dactl_syntax.specs.Reading.{Reads, by, read_pair, read_behind, lower_at, args_at, term_at, redirects, part_at, plain_at, comma_part_at, plain_parts_at, parts_at, rewriting_at, redirecting_at, right_side_at, rule_at, bar_rule_at, rule_list_at, group_at, groups_at}
-use Rattle.dactl_syntax.proofs.Sorts.{every, bars, apart, implies, along, clears, cleared}
+use Rattle.dactl_terminals.specs.Parts.{Tok, Part_of, is, behind, before, pair, listed, separated, lower}
+use Rattle.dactl_syntax.specs.Productions.{several, term, args, part_term, part_redirect, part, rewrites_of, redirects_of, rewriting, redirecting, rule_of, rule, group_of, group, pattern}
+use Rattle.dactl_terminals.specs.Reads.{Reads, by, read_pair, read_behind, lower_at}
+use Rattle.dactl_syntax.specs.Reading.{args_at, term_at, redirects, part_at, plain_at, comma_part_at, plain_parts_at, parts_at, rewriting_at, redirecting_at, right_side_at, rule_at, bar_rule_at, rule_list_at, group_at, groups_at}
+use Rattle.dactl_terminals.proofs.Sorts.{every, bars, apart, implies, along, clears, cleared}
 use Rattle.dactl_grammar.proofs.Exact.{Stops, exact_choice}
 use Rattle.dactl_grammar.proofs.Same.{same_parted}
-use Rattle.dactl_syntax.proofs.Fits.{none, Solid, Fit, solid_means, solid_row_first, a_row, a_choice, a_meaning, a_place, solid_place, a_same}
-use Rattle.dactl_syntax.proofs.TermLaws.{goes_on_term, solid_choice_of, fit_lower, solid_lower, fit_term, solid_term, fit_args, solid_args, solid_behind}
-use Rattle.dactl_syntax.proofs.PatternLaws.{a_before, a_behind, a_list, solid_listed, solid_before, fit_pattern_at, solid_pattern_at}
+use Rattle.dactl_terminals.proofs.Fits.{none, Solid, Fit, solid_means, solid_row_first, a_row, a_choice, a_meaning, a_place, solid_place, a_same, solid_choice_of, fit_lower, solid_lower, solid_behind, a_before, a_behind, a_list, solid_listed, solid_before}
+use Rattle.dactl_syntax.proofs.TermLaws.{goes_on_term, fit_term, solid_term, fit_args, solid_args}
+use Rattle.dactl_syntax.proofs.PatternLaws.{fit_pattern_at, solid_pattern_at}
 
 pub fit_term_at : (n : ℕ) → Fit (term (args n)) (term_at n) starts_term goes_on_term
 unfolding term_at

@@ -1,17 +1,17 @@
 -- Each sign, keyword and name is written as the token that it is.
-use Rattle.std.proofs.Common.{◌≡◌, ℕ, Bool, true, inl, inr, List, Some, refl, sym, ap, subst}
-use Rattle.std.specs.Prelude.{codes, ℤ}
+use Rattle.std.proofs.Common.{◌≡◌, ℕ, Bool, true, inl, inr, List, Some, refl, sym, ap, subst, false}
+use Rattle.std.specs.Prelude.{codes, ℤ, ◌<◌}
 use Rattle.std.specs.Int.Signed.{mag}
-use Rattle.std.specs.Prelude.{◌<◌}
 use Rattle.std.specs.Fmt.{signed_decimal}
 use Rattle.dactl_tokens.specs.declared.token.TokenKind.TheVariants as kinds
 use Rattle.dactl_tokens.specs.Spelling.{kind_of, bound, is_keyword, is_sign_byte, is_long_sign}
-use Rattle.dactl_syntax.specs.declared.token.Sort.{Sort}
-use Rattle.dactl_syntax.specs.declared.token.Sort.TheVariants as s
+use Rattle.dactl_terminals.specs.declared.token.Sort.{Sort}
+use Rattle.dactl_terminals.specs.declared.token.Sort.TheVariants as s
 use Rattle.dactl_meaning.specs.declared.tree.Name.{Name}
-use Rattle.dactl_syntax.specs.Sort.{same_sort}
-use Rattle.dactl_syntax.specs.Productions.{is, sign, name_of, upper, lower, letter, value_at}
-use Rattle.dactl_syntax.specs.Seen.{sort_of, keyword_sort, sign_sort}
+use Rattle.dactl_terminals.specs.Sort.{same_sort}
+use Rattle.dactl_terminals.specs.Parts.{is, sign, name_of, upper, lower, value_at}
+use Rattle.dactl_syntax.specs.Productions.{letter}
+use Rattle.dactl_terminals.specs.Seen.{keyword_sort, sign_sort, sort_of}
 use Rattle.dactl_syntax.specs.Canonical.{word, line_end, character}
 use Rattle.dactl_meaning.specs.Unplaced.{bare_name}
 use Rattle.dactl_syntax.proofs.TokenFacts.{character_bytes, character_is}
@@ -38,10 +38,10 @@ no_integer_character e = cc
 
 module _ (wide : Bool) where
   -- a sign before a space
-  sign_word : (k : Sort) (bytes : List ℕ) → kind_of wide bytes ≡ Some kinds.Sign → same_sort k (sort_of kinds.Sign bytes) ≡ true → Back wide (sign k) (word bytes) Anything
+  sign_word : (k : Sort) (bytes : List ℕ) → kind_of wide bytes ≡ Some kinds.Sign → same_sort k (sort_of false kinds.Sign bytes) ≡ true → Back wide (sign k) (word bytes) Anything
   sign_word k bytes e h = back_one (is k) (record { kind = kinds.Sign; bytes = bytes; blank = 32 }) Anything (record { kind = e; fits = λ i. absurd (no_integer_sign i); space = inl refl }) (λ place. h) (λ place. tt)
 
-  keyword_word : (k : Sort) (bytes : List ℕ) → kind_of wide bytes ≡ Some kinds.Keyword → same_sort k (sort_of kinds.Keyword bytes) ≡ true → Back wide (sign k) (word bytes) Anything
+  keyword_word : (k : Sort) (bytes : List ℕ) → kind_of wide bytes ≡ Some kinds.Keyword → same_sort k (sort_of false kinds.Keyword bytes) ≡ true → Back wide (sign k) (word bytes) Anything
   keyword_word k bytes e h = back_one (is k) (record { kind = kinds.Keyword; bytes = bytes; blank = 32 }) Anything (record { kind = e; fits = λ i. absurd (no_integer_keyword i); space = inl refl }) (λ place. h) (λ place. tt)
 
   pub semicolon_back : Back wide (sign s.Semicolon) line_end Anything
@@ -168,11 +168,11 @@ module _ (wide : Bool) where
   lower_back name e = back_means name_of (SameBy bare_name name) (λ t h. ap (λ (w : List ℕ). record { text = w; place = record { byte = 0 } }) h)
       (back_one (is s.Lower) (record { kind = kinds.Lower; bytes = name.text; blank = 32 }) (λ t. t.word ≡ name.text) (record { kind = e; fits = λ i. absurd (no_integer_lower i); space = inl refl }) (λ place. refl) (λ place. refl))
 
-  pub integer_back : (value : ℤ) → mag value < bound wide → Back wide (sign s.Integer) (word (signed_decimal value)) (λ t. value_at t.word ≡ value)
+  pub integer_back : (value : ℤ) → mag value < bound wide → Back wide (sign s.Integer) (word (signed_decimal value)) (λ t. value_at true t.word ≡ value)
   unfolding sort_of same_sort
   integer_back value h =
       let spelled = decimal_spelled wide value h in
-      back_one (is s.Integer) (record { kind = kinds.Integer; bytes = signed_decimal value; blank = 32 }) (λ t. value_at t.word ≡ value) (record { kind = spelled.kind; fits = λ i. spelled.fits; space = inl refl }) (λ place. refl) (λ place. spelled.value)
+      back_one (is s.Integer) (record { kind = kinds.Integer; bytes = signed_decimal value; blank = 32 }) (λ t. value_at true t.word ≡ value) (record { kind = spelled.kind; fits = λ i. spelled.fits; space = inl refl }) (λ place. refl) (λ place. spelled.value)
 
   pub character_back : (w : List ℕ) → kind_of wide w ≡ Some kinds.Character → Back wide (sign s.Character) (character (letter w)) (λ t. letter t.word ≡ letter w)
   unfolding sort_of same_sort

@@ -8,7 +8,7 @@ use Rattle.dactl_model.specs.Names.{is_upper_name, is_keyword, keywords}
 use Rattle.dactl_tokens.specs.Lexes.{has_header}
 use Rattle.dactl_grammar.specs.Grammar.{one, maybe, means}
 use Rattle.dactl_grammar.proofs.Holds.{Holds, IfThere, holds_one, holds_row, holds_choice, holds_maybe, holds_many, holds_means, holds_barred, holds_placed}
-use Rattle.dactl_syntax.specs.declared.token.Sort.TheVariants as s
+use Rattle.dactl_terminals.specs.declared.token.Sort.TheVariants as s
 use Rattle.dactl_meaning.specs.declared.tree.Name.{Name}
 use Rattle.dactl_meaning.specs.declared.tree.Marks.{Marks}
 use Rattle.dactl_meaning.specs.declared.tree.Marks.TheVariants as marks
@@ -26,7 +26,8 @@ use Rattle.dactl_meaning.specs.declared.tree.Item.{Item}
 use Rattle.dactl_meaning.specs.declared.tree.Item.TheVariants as item
 use Rattle.dactl_meaning.specs.declared.tree.Module.{Module}
 use Rattle.dactl_meaning.specs.declared.tree.Text.{Text}
-use Rattle.dactl_syntax.specs.Productions.{Tok, Part_of, is, here, sign, behind, before, several, upper, lower, name_of, star_of, hashes_of, counted, mark, integer_of, letter, value_at, letter_of, sym_of, node, named_of, bare_of, body, term_of, term, arg_of, arg, args, pattern, part_term, part_redirect, part, rewrites_of, redirects_of, rewriting, redirecting, rule_of, rule, group_of, group, names, imports_of, imports, class, symbols_of, symbols, pattern_named_of, named, rules_of, rules, initial_of, initial, an_item, is_name, module_of, a_module}
+use Rattle.dactl_terminals.specs.Parts.{Tok, Part_of, is, here, sign, behind, before, upper, lower, name_of, value_at, names}
+use Rattle.dactl_syntax.specs.Productions.{several, star_of, hashes_of, counted, mark, integer_of, letter, letter_of, sym_of, node, named_of, bare_of, body, term_of, term, arg_of, arg, args, pattern, part_term, part_redirect, part, rewrites_of, redirects_of, rewriting, redirecting, rule_of, rule, group_of, group, imports_of, imports, class, symbols_of, symbols, pattern_named_of, named, rules_of, rules, initial_of, initial, an_item, is_name, module_of, a_module}
 use Rattle.dactl_meaning.specs.Spelling.{is_counted, has_body, node_whole, arg_whole, term_whole, is_whole, contracta, IsNarrowText, IsSpelled}
 use Rattle.dactl_meaning.specs.Contractum.{term_of_part}
 use Rattle.dactl_meaning.specs.Declarations.{PlacedRule, Declaration, items_of, rules as all_rules, item_names, module_names, own_names, built_in_names, all_names, is_symbol, symbol_names}
@@ -88,7 +89,7 @@ module _ (wide : Bool) where
   sym_whole name given h = ap whole_node (sym (rolls-Sym name given)) ∙ fold-roll-NodeTree Bool Bool Bool node_whole arg_whole term_whole (NodeTree-F.Sym name given) ∙ args_whole given h
 
   integer_whole : (t : Tok) → IsWholeNode (integer_of t)
-  integer_whole t = ap whole_node (sym (rolls-Integer (value_at t.word) (here t))) ∙ fold-roll-NodeTree Bool Bool Bool node_whole arg_whole term_whole (NodeTree-F.Integer (value_at t.word) (here t))
+  integer_whole t = ap whole_node (sym (rolls-Integer (value_at true t.word) (here t))) ∙ fold-roll-NodeTree Bool Bool Bool node_whole arg_whole term_whole (NodeTree-F.Integer (value_at true t.word) (here t))
 
   letter_whole : (t : Tok) → IsWholeNode (letter_of t)
   letter_whole t = ap whole_node (sym (rolls-Letter (letter t.word) (here t))) ∙ fold-roll-NodeTree Bool Bool Bool node_whole arg_whole term_whole (NodeTree-F.Letter (letter t.word) (here t))

@@ -1,14 +1,16 @@
 -- What the loops and the steps over brackets cite.
 use Rattle.std.proofs.Common.{◌≡◌, ℕ, zero, suc, ◌+◌, ◌-◌, ◌<◌, List, ◌++◌, length, Ok, refl, ap, ◌∙◌, arith}
 use Rattle.std.proofs.lemmas.List.{length-map}
-use Rattle.dactl_syntax.specs.declared.token.Sort.TheVariants as s
-use Rattle.dactl_syntax.specs.declared.token.Terminal.{Terminal}
+use Rattle.dactl_terminals.specs.declared.token.Sort.TheVariants as s
+use Rattle.dactl_terminals.specs.declared.token.Terminal.{Terminal}
 use Rattle.dactl_syntax.specs.Sort.{starts_arg}
 use Rattle.dactl_grammar.specs.Reader.{read_many}
-use Rattle.dactl_syntax.specs.Productions.{Tok, arg, args}
-use Rattle.dactl_syntax.specs.Reading.{Reads, by, read_behind, read_before, read_sign, arg_at, args_at}
-use Rattle.dactl_syntax.specs.Seen.{seen, toks}
-use Rattle.dactl_syntax.proofs.Fits.{Fit, fit_sign, solid_sign, shrinks}
+use Rattle.dactl_terminals.specs.Parts.{Tok}
+use Rattle.dactl_syntax.specs.Productions.{arg, args}
+use Rattle.dactl_terminals.specs.Reads.{by, read_behind, read_before, read_sign}
+use Rattle.dactl_syntax.specs.Reading.{arg_at, args_at}
+use Rattle.dactl_terminals.specs.Seen.{seen, toks}
+use Rattle.dactl_terminals.proofs.Fits.{Fit, fit_sign, solid_sign, shrinks}
 use Rattle.dactl_syntax.proofs.TermLaws.{fit_arg, solid_arg, fit_args, solid_args, goes_on_term}
 use Rattle.dactl_grammar.proofs.Loop.{Shrinks}
 
@@ -21,14 +23,6 @@ arg_shrinks n = shrinks (fit_arg_at n) (solid_arg (args n) (args_at n) (fit_args
 
 pub hash_shrinks : Shrinks (read_sign s.Hash)
 hash_shrinks = shrinks (fit_sign s.Hash) (solid_sign s.Hash)
-
--- what is left behind a part is less
-pub less_left : {A : Type 0} (R : Reads A) → Shrinks R → (text : List ℕ) (l r : List Terminal) (a : A) → R (toks text l) ≡ Ok (a, toks text r) → length r < length l
-less_left R h text l r a e =
-    let lt = h (toks text l) a (toks text r) e in
-    let len_l = length-map l (seen text) in
-    let len_r = length-map r (seen text) in
-    omega arith
 
 pub one_left : (text : List ℕ) (l r : List Terminal) (t : Tok) → read_sign s.Hash (toks text l) ≡ Ok (t, toks text r) → length r + 1 ≡ length l
 one_left text l r t e =

@@ -1,17 +1,20 @@
 -- With one more bracket each part of the grammar reads the same, or more.
 use Rattle.std.proofs.Common.{◌≡◌, ℕ, zero, suc, Bool, true, false, inl, List, [], length, refl}
 use Rattle.std.specs.Prelude.{◌||◌}
-use Rattle.dactl_syntax.specs.declared.token.Sort.{Sort}
-use Rattle.dactl_syntax.specs.declared.token.Sort.TheVariants as s
+use Rattle.dactl_terminals.specs.declared.token.Sort.TheVariants as s
 use Rattle.dactl_meaning.specs.declared.tree.ArgTree.{ArgTree}
-use Rattle.dactl_syntax.specs.Sort.{same_sort, starts_mark, starts_node, starts_arg}
-use Rattle.dactl_grammar.specs.Grammar.{row, choice, maybe, many, barred}
-use Rattle.dactl_grammar.specs.Reader.{head_is, read_row, read_choice, read_maybe, read_many}
-use Rattle.dactl_syntax.specs.Productions.{Tok, Part_of, is, sign, behind, before, upper, lower, name_of, mark, star_of, hashes_of, counted, integer_of, letter_of, sym_of, node, named_of, bare_of, body, term_of, term, arg_of, arg, args}
-use Rattle.dactl_syntax.specs.Reading.{Reads, by, read_sign, read_behind, read_before, upper_at, lower_at, hashes_at, mark_at, read_node, read_body, read_term, read_arg, args_at}
-use Rattle.dactl_syntax.proofs.Fits.{Fit, fit_sign, solid_sign, a_many, a_maybe}
-use Rattle.dactl_syntax.proofs.TermLaws.{fit_upper, fit_lower, fit_mark, solid_mark, fit_node, solid_node, fit_behind, fit_arg, solid_arg, fit_args, solid_args, goes_on_arg}
-use Rattle.dactl_grammar.proofs.Grows.{Grows, grows_one, grows_means, grows_row, grows_choice, grows_maybe, grows_many, grows_barred}
+use Rattle.dactl_terminals.specs.Sort.{same_sort}
+use Rattle.dactl_syntax.specs.Sort.{starts_mark, starts_arg}
+use Rattle.dactl_grammar.specs.Grammar.{many, barred}
+use Rattle.dactl_grammar.specs.Reader.{head_is, read_many}
+use Rattle.dactl_terminals.specs.Parts.{Tok, Part_of, is, behind, before}
+use Rattle.dactl_syntax.specs.Productions.{mark, star_of, hashes_of, counted, integer_of, letter_of, sym_of, node, named_of, bare_of, body, term_of, term, arg_of, arg, args}
+use Rattle.dactl_terminals.specs.Reads.{Reads, by, read_behind, read_before}
+use Rattle.dactl_syntax.specs.Reading.{hashes_at, mark_at, read_node, read_body, read_term, read_arg, args_at}
+use Rattle.dactl_terminals.proofs.Fits.{Fit, fit_sign, solid_sign, a_many, a_maybe, fit_upper, fit_lower, a_behind}
+use Rattle.dactl_syntax.proofs.TermLaws.{fit_mark, solid_mark, fit_node, solid_node, fit_arg, solid_arg, fit_args, solid_args, goes_on_arg}
+use Rattle.dactl_grammar.proofs.Grows.{Grows, grows_means, grows_barred}
+use Rattle.dactl_terminals.proofs.Grown.{g_sign, g_row, g_choice, g_maybe, g_many, g_behind, g_before, g_upper, g_lower}
 
 -- the brackets that count
 abbrev pub opens : Tok → Bool
@@ -19,36 +22,6 @@ opens t = is s.Open t || is s.Left t
 
 abbrev pub Grown : {A : Type 0} → Part_of A → Reads A → Part_of A → Reads A → Type 0
 Grown P R P' R' = Grows opens P R P' R'
-
-pub g_sign : (k : Sort) → Grown (sign k) (read_sign k) (sign k) (read_sign k)
-g_sign k = grows_one opens (is k)
-
-pub g_row : {A B : Type 0} {P P' : Part_of A} {Q Q' : A → Part_of B} {R R' : Reads A} {S S' : A → Reads B} {f m : Sort → Bool}
-    → Fit P R f m → Grown P R P' R' → ((a : A) → Grown (Q a) (S a) (Q' a) (S' a)) → Grown (row P Q) (read_row R S) (row P' Q') (read_row R' S')
-g_row {A} {B} {P} {P'} {Q} {Q'} {R} {R'} {S} {S'} p g h = grows_row opens P P' Q Q' R R' S S' p.exact.sound g h
-
-pub g_choice : {A : Type 0} (d : List Tok → Bool) {P P' Q Q' : Part_of A} {R R' S S' : Reads A} → Grown P R P' R' → Grown Q S Q' S' → Grown (choice P Q) (read_choice d R S) (choice P' Q') (read_choice d R' S')
-g_choice d {P} {P'} {Q} {Q'} {R} {R'} {S} {S'} g h = grows_choice opens d P P' Q Q' R R' S S' g h
-
-pub g_maybe : {A : Type 0} (d : Sort → Bool) {P P' : Part_of A} {R R' : Reads A} {f m : Sort → Bool} → Fit P R f m → Grown P R P' R' → Grown (maybe P) (read_maybe (by d) R) (maybe P') (read_maybe (by d) R')
-g_maybe d {P} {P'} {R} {R'} p g = grows_maybe opens (by d) P P' R R' p.exact.sound g
-
-pub g_many : {A : Type 0} (d : Sort → Bool) {P P' : Part_of A} {R R' : Reads A} {f m : Sort → Bool} → Fit P R f m → Grown P R P' R' → Grown (many P) (read_many (by d) R) (many P') (read_many (by d) R')
-g_many d {P} {P'} {R} {R'} p g = grows_many opens (by d) P P' R R' p.exact.sound g
-
-pub g_behind : {A : Type 0} (k : Sort) {P P' : Part_of A} {R R' : Reads A} → Grown P R P' R' → Grown (behind k P) (read_behind k R) (behind k P') (read_behind k R')
-g_behind {A} k g = grows_means (λ (v : Tok × A). v.1) (g_row (fit_sign k) (g_sign k) (λ _. g))
-
-pub g_before : {A : Type 0} (k : Sort) {P P' : Part_of A} {R R' : Reads A} {f m : Sort → Bool} → Fit P R f m → Grown P R P' R' → Grown (before P k) (read_before R k) (before P' k) (read_before R' k)
-g_before {A} k p g = grows_means (λ (v : A × Tok). v.0) (g_row p g (λ _. g_sign k))
-
-pub g_upper : Grown upper upper_at upper upper_at
-unfolding upper_at
-g_upper = grows_means name_of (g_sign s.Upper)
-
-pub g_lower : Grown lower lower_at lower lower_at
-unfolding lower_at
-g_lower = grows_means name_of (g_sign s.Lower)
 
 g_hashes : Grown counted hashes_at counted hashes_at
 unfolding hashes_at
@@ -66,7 +39,7 @@ module _ (P P' : Part_of (List ArgTree)) (R R' : Reads (List ArgTree)) (fit : Fi
   g_body : Grown (body P) (read_body R) (body P') (read_body R')
   unfolding same_sort
   g_body = g_choice (head_is (by (same_sort s.Lower)))
-      (grows_means named_of (g_row fit_lower g_lower (λ _. g_maybe (same_sort s.Colon) (fit_behind s.Colon (node P) (read_node R) starts_node (same_sort s.Open) (fit_node P R fit solid) (solid_node P R fit solid) refl refl refl) (g_behind s.Colon g_node))))
+      (grows_means named_of (g_row fit_lower g_lower (λ _. g_maybe (same_sort s.Colon) (a_behind s.Colon (fit_node P R fit solid) (solid_node P R fit solid) refl refl refl) (g_behind s.Colon g_node))))
       (grows_means bare_of g_node)
 
   pub g_term : Grown (term P) (read_term R) (term P') (read_term R')

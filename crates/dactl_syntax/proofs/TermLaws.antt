@@ -1,18 +1,20 @@
 -- Reading terms is exact for the grammar of terms.
-use Rattle.std.proofs.Common.{◌≡◌, ℕ, zero, suc, Bool, true, false, inl, inr, List, length, Option, refl}
+use Rattle.std.proofs.Common.{ℕ, zero, suc, Bool, true, false, inl, inr, List, length, Option, refl}
 use Rattle.std.specs.Prelude.{◌||◌}
-use Rattle.dactl_syntax.specs.declared.token.Sort.{Sort}
-use Rattle.dactl_syntax.specs.declared.token.Sort.TheVariants as s
+use Rattle.dactl_terminals.specs.declared.token.Sort.{Sort}
+use Rattle.dactl_terminals.specs.declared.token.Sort.TheVariants as s
 use Rattle.dactl_meaning.specs.declared.tree.Name.{Name}
 use Rattle.dactl_meaning.specs.declared.tree.NodeTree.{NodeTree}
 use Rattle.dactl_meaning.specs.declared.tree.ArgTree.{ArgTree}
-use Rattle.dactl_syntax.specs.Sort.{same_sort, starts_mark, starts_node, starts_body, starts_term, starts_arg}
+use Rattle.dactl_terminals.specs.Sort.{same_sort}
+use Rattle.dactl_syntax.specs.Sort.{starts_mark, starts_node, starts_body, starts_term, starts_arg}
 use Rattle.dactl_grammar.specs.Grammar.{choice, maybe, many, means}
 use Rattle.dactl_grammar.specs.Reader.{read_many}
-use Rattle.dactl_syntax.specs.Productions.{Tok, Part_of, sign, behind, before, pair, name_of, upper, lower, star_of, hashes_of, counted, mark, integer_of, letter_of, sym_of, node, named_of, bare_of, body, term_of, term, arg_of, arg, args}
-use Rattle.dactl_syntax.specs.Reading.{Reads, by, read_sign, read_pair, read_behind, read_before, upper_at, lower_at, hashes_at, mark_at, read_node, read_body, read_term, read_arg, args_at}
-use Rattle.dactl_syntax.proofs.Sorts.{every, bars, implies, clears}
-use Rattle.dactl_syntax.proofs.Fits.{none, Solid, Fit, fit_sign, solid_sign, fit_means, solid_means, fit_row, solid_row_first, solid_row_second, fit_barred, solid_barred, a_row, a_choice, a_maybe, a_many, a_meaning}
+use Rattle.dactl_terminals.specs.Parts.{Tok, Part_of, sign, behind, before, pair, upper, lower}
+use Rattle.dactl_syntax.specs.Productions.{star_of, hashes_of, counted, mark, integer_of, letter_of, sym_of, node, named_of, bare_of, body, term_of, term, arg_of, arg, args}
+use Rattle.dactl_terminals.specs.Reads.{Reads, by, read_behind, read_before}
+use Rattle.dactl_syntax.specs.Reading.{hashes_at, mark_at, read_node, read_body, read_term, read_arg, args_at}
+use Rattle.dactl_terminals.proofs.Fits.{none, Solid, Fit, fit_sign, solid_sign, solid_means, solid_row_first, solid_row_second, fit_barred, solid_barred, a_row, a_choice, a_maybe, a_many, a_meaning, fit_upper, fit_lower, solid_upper, solid_lower, a_behind, solid_behind, solid_choice_of}
 
 -- the tokens with which a term may go on
 abbrev pub goes_on_term : Sort → Bool
@@ -28,32 +30,6 @@ starts_letter t = same_sort s.Character t || same_sort s.Upper t
 
 abbrev pub starts_arg_or_close : Sort → Bool
 starts_arg_or_close t = starts_arg t || same_sort s.Close t
-
-pub solid_choice_of : {A : Type 0} (P Q : Part_of A) → Solid P → Solid Q → Solid (choice P Q)
-solid_choice_of P Q p q a w = elim w [ inl k ↦ p a k | inr k ↦ q a k ]
-
-pub fit_upper : Fit upper upper_at (same_sort s.Upper) none
-unfolding upper_at
-fit_upper = fit_means name_of (sign s.Upper) (read_sign s.Upper) (same_sort s.Upper) none (fit_sign s.Upper)
-
-pub fit_lower : Fit lower lower_at (same_sort s.Lower) none
-unfolding lower_at
-fit_lower = fit_means name_of (sign s.Lower) (read_sign s.Lower) (same_sort s.Lower) none (fit_sign s.Lower)
-
-pub solid_upper : Solid upper
-solid_upper = solid_means name_of (sign s.Upper) (solid_sign s.Upper)
-
-pub solid_lower : Solid lower
-solid_lower = solid_means name_of (sign s.Lower) (solid_sign s.Lower)
-
--- a part behind a token
-pub fit_behind : {A : Type 0} (k : Sort) (P : Part_of A) (R : Reads A) (f m : Sort → Bool) → Fit P R f m → Solid P → every (bars f none) ≡ true → every (clears m m) ≡ true → every (implies (same_sort k) (same_sort k)) ≡ true → Fit (behind k P) (read_behind k R) (same_sort k) m
-fit_behind k P R f m p sp a b c =
-    fit_means (λ v. v.1) (pair (sign k) P) (read_pair (read_sign k) R) (same_sort k) m
-    (fit_row (sign k) (λ _. P) (read_sign k) (λ _. R) (same_sort k) none f m (same_sort k) m (fit_sign k) (λ _. p) a b (inl (λ _. sp)) c (inl (solid_sign k)))
-
-pub solid_behind : {A : Type 0} (k : Sort) (P : Part_of A) → Solid (behind k P)
-solid_behind k P = solid_means (λ v. v.1) (pair (sign k) P) (solid_row_first (sign k) (λ _. P) (solid_sign k))
 
 pub fit_hashes : Fit counted hashes_at (same_sort s.Hash) (same_sort s.Hash)
 unfolding same_sort hashes_at
@@ -117,7 +93,7 @@ module _ (inner : Part_of (List ArgTree)) (read : Reads (List ArgTree)) (fit : F
 
   fit_of_colon : Fit (behind s.Colon (node inner)) (read_behind s.Colon (read_node read)) (same_sort s.Colon) (same_sort s.Open)
   unfolding same_sort
-  fit_of_colon = fit_behind s.Colon (node inner) (read_node read) starts_node (same_sort s.Open) fit_node solid_node refl refl refl
+  fit_of_colon = a_behind s.Colon fit_node solid_node refl refl refl
 
   pub fit_body : Fit (body inner) (read_body read) starts_body goes_on_term
   unfolding same_sort
@@ -147,7 +123,7 @@ module _ (inner : Part_of (List ArgTree)) (read : Reads (List ArgTree)) (fit : F
   unfolding same_sort
   fit_bracket =
       let rest = a_meaning (λ (v : List ArgTree × Tok). v.0) (a_row {f = starts_arg} starts_arg_or_close none (a_many goes_on_arg fit_arg solid_arg refl refl refl) (λ _. fit_sign s.Close) refl refl (inl (λ _. solid_sign s.Close)) refl (inr refl)) in
-      fit_behind s.Open (before (many (arg inner)) s.Close) (read_before (read_many (by starts_arg) (read_arg read)) s.Close) starts_arg_or_close none rest
+      a_behind s.Open rest
       (solid_means (λ v. v.0) (pair (many (arg inner)) (sign s.Close)) (solid_row_second (many (arg inner)) (λ _. sign s.Close) (λ _. solid_sign s.Close))) refl refl refl
 
 pub solid_args : (n : ℕ) → Solid (args n)

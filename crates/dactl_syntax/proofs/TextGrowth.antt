@@ -1,22 +1,25 @@
 -- The same for patterns, rules, items and modules.
 use Rattle.std.proofs.Common.{◌≡◌, ℕ, zero, suc, Bool, true, false, inl, List, [], ◌∷◌, ◌++◌, refl}
 use Rattle.std.specs.Prelude.{◌||◌, is_some}
-use Rattle.dactl_syntax.specs.declared.token.Sort.{Sort}
-use Rattle.dactl_syntax.specs.declared.token.Sort.TheVariants as s
+use Rattle.dactl_terminals.specs.declared.token.Sort.TheVariants as s
 use Rattle.dactl_meaning.specs.declared.tree.PatternTree.{PatternTree}
-use Rattle.dactl_syntax.specs.Sort.{same_sort, starts_piece, is_sign, is_class, starts_item}
+use Rattle.dactl_terminals.specs.Sort.{same_sort}
+use Rattle.dactl_syntax.specs.Sort.{starts_piece, is_sign, is_class, starts_item}
 use Rattle.dactl_grammar.specs.Grammar.{many, barred}
 use Rattle.dactl_grammar.specs.Reader.{head_is, read_many}
-use Rattle.dactl_syntax.specs.Productions.{Tok, Part_of, is, behind, before, listed, several, term, args, any_of, int_of, char_of, number_of, character_of, pattern_sym_of, base, piece_of, piece, plus_of, minus_of, operator, chain_of, pattern_over, squares, rounds, pattern, part_term, part_redirect, part, rewrites_of, redirects_of, rewriting, redirecting, rule_of, rule, group_of, group, names, imports_of, imports, class_at, class, symbols_of, symbols, pattern_named_of, named, rules_of, rules, initial_of, initial, an_item, is_name, module_of, a_module, language_of, text}
-use Rattle.dactl_syntax.specs.Reading.{Reads, by, read_behind, read_before, read_listed, read_base, read_piece, operator_at, read_pattern, squares_at, rounds_at, pattern_at, args_at, term_at, redirects, part_at, plain_at, comma_part_at, plain_parts_at, parts_at, rewriting_at, redirecting_at, right_side_at, rule_at, bar_rule_at, rule_list_at, group_at, groups_at, comma_upper_at, names_at, imports_at, class_reads, public_class_at, public_at, symbols_at, named_at, rules_at, comma_term_at, terms_at, initial_at, item_at, items_at, module_at, modules_at, language_at, text_at}
-use Rattle.dactl_syntax.proofs.Fits.{Fit, Solid, none, fit_sign, solid_sign, a_many, a_maybe, a_row, a_meaning}
+use Rattle.dactl_terminals.specs.Parts.{Tok, Part_of, is, behind, before}
+use Rattle.dactl_syntax.specs.Productions.{several, term, args, any_of, int_of, char_of, number_of, character_of, pattern_sym_of, base, piece_of, piece, plus_of, minus_of, operator, chain_of, pattern_over, squares, rounds, pattern, part_term, part_redirect, part, rewrites_of, redirects_of, rewriting, redirecting, rule_of, rule, group_of, group, imports_of, imports, class_at, class, symbols_of, symbols, pattern_named_of, named, rules_of, rules, initial_of, initial, an_item, is_name, module_of, a_module, language_of, text}
+use Rattle.dactl_terminals.specs.Reads.{Reads, by, read_behind, read_before}
+use Rattle.dactl_syntax.specs.Reading.{read_base, read_piece, operator_at, read_pattern, squares_at, rounds_at, pattern_at, args_at, term_at, redirects, part_at, plain_at, comma_part_at, plain_parts_at, parts_at, rewriting_at, redirecting_at, right_side_at, rule_at, bar_rule_at, rule_list_at, group_at, groups_at, imports_at, class_reads, public_class_at, public_at, symbols_at, named_at, rules_at, comma_term_at, terms_at, initial_at, item_at, items_at, module_at, modules_at, language_at, text_at}
+use Rattle.dactl_terminals.proofs.Fits.{Fit, Solid, none, fit_sign, solid_sign, a_many, a_maybe, a_row, a_meaning, fit_upper, solid_upper, fit_lower, solid_behind, a_behind, a_before, fit_names}
 use Rattle.dactl_grammar.proofs.Same.{Same, same_parted}
-use Rattle.dactl_syntax.proofs.TermLaws.{fit_upper, solid_upper, fit_lower, fit_args, solid_args, solid_behind}
-use Rattle.dactl_syntax.proofs.PatternLaws.{goes_on_piece, goes_on_pieces, a_behind, a_before, fit_operator, solid_operator, fit_base, solid_base, fit_piece, solid_piece, fit_pattern, fit_squares, fit_rounds, solid_squares, solid_rounds, fit_pattern_at}
+use Rattle.dactl_syntax.proofs.TermLaws.{fit_args, solid_args}
+use Rattle.dactl_syntax.proofs.PatternLaws.{goes_on_piece, goes_on_pieces, fit_operator, solid_operator, fit_base, solid_base, fit_piece, solid_piece, fit_pattern, fit_squares, fit_rounds, solid_squares, solid_rounds, fit_pattern_at}
 use Rattle.dactl_syntax.proofs.RuleLaws.{fit_term_at, fit_part, fit_comma_part, fit_rule, fit_bar_rule, fit_rule_list, fit_group, fit_plain}
-use Rattle.dactl_syntax.proofs.ModuleLaws.{fit_comma_upper, fit_names, fit_class, solid_class, fit_comma_term, fit_terms, fit_item, solid_item, fit_module, fit_language, a_test, name_upper, goes_on_items}
+use Rattle.dactl_syntax.proofs.ModuleLaws.{fit_class, solid_class, fit_comma_term, fit_terms, fit_item, solid_item, fit_module, fit_language, a_test, name_upper, goes_on_items}
 use Rattle.dactl_grammar.proofs.Grows.{grows_one, grows_means, grows_placed, grows_barred}
-use Rattle.dactl_syntax.proofs.TermGrowth.{opens, Grown, g_sign, g_row, g_choice, g_maybe, g_many, g_behind, g_before, g_upper, g_lower, g_term, g_args, open_counts}
+use Rattle.dactl_terminals.proofs.Grown.{g_sign, g_row, g_choice, g_maybe, g_many, g_behind, g_before, g_upper, g_lower, g_list, g_names}
+use Rattle.dactl_syntax.proofs.TermGrowth.{opens, Grown, g_term, g_args, open_counts}
 
 g_operator : Grown operator operator_at operator operator_at
 unfolding operator_at
@@ -81,9 +84,6 @@ g_term_at : (n : ℕ) → Grown (term (args n)) (term_at n) (term (args (suc n))
 unfolding term_at
 g_term_at n = g_term (args n) (args (suc n)) (args_at n) (args_at (suc n)) (fit_args n) (solid_args n) (g_args n)
 
-g_list : {A : Type 0} (d : Sort → Bool) {P P' Q Q' : Part_of A} {R R' S S' : Reads A} {f m g n : Sort → Bool} → Fit P R f m → Grown P R P' R' → Fit Q S g n → Grown Q S Q' S' → Grown (listed P Q) (read_listed d R S) (listed P' Q') (read_listed d R' S')
-g_list {A} d p g q h = grows_means (λ (v : A × List A). v.0 ∷ v.1) (g_row p g (λ _. g_many d q h))
-
 g_same : {A : Type 0} {P Q P' Q' : Part_of A} {R R' : Reads A} → Same P Q → Same P' Q' → Grown P R P' R' → Grown Q R Q' R'
 g_same s t g = record {
   whole = λ u a w. t.whole_to u a (g.whole u a (s.whole_from u a w));
@@ -92,10 +92,6 @@ g_same s t g = record {
   refused = g.refused;
   deep = λ l n e. let d = g.deep l n e in record { front = d.front; token = d.token; rest = d.rest; parts = d.parts; place = d.place; bracket = d.bracket; begins = t.begins_to (d.front ++ d.token ∷ []) d.begins };
 }
-
-g_names : Grown names names_at names names_at
-unfolding names_at comma_upper_at
-g_names = g_list (same_sort s.Comma) fit_upper g_upper fit_comma_upper (g_behind s.Comma g_upper)
 
 g_imports : Grown imports imports_at imports imports_at
 unfolding imports_at

@@ -1,10 +1,11 @@
 -- What a part of the grammar of patterns derives, it derives with one more bracket.
 use Rattle.std.proofs.Common.{ℕ, zero, suc, inl, inr, List, [], ◌∷◌, Option, Some, None}
 use Rattle.dactl_grammar.specs.Grammar.{choice, WholeMaybe, maybe, WholeMany, many, means, barred}
-use Rattle.dactl_syntax.specs.declared.token.Sort.{Sort}
-use Rattle.dactl_syntax.specs.declared.token.Sort.TheVariants as s
+use Rattle.dactl_terminals.specs.declared.token.Sort.{Sort}
+use Rattle.dactl_terminals.specs.declared.token.Sort.TheVariants as s
 use Rattle.dactl_meaning.specs.declared.tree.PatternTree.{PatternTree}
-use Rattle.dactl_syntax.specs.Productions.{Tok, Part_of, sign, behind, before, pair, upper, lower, any_of, int_of, char_of, number_of, character_of, pattern_sym_of, base, piece_of, piece, operator, chain_of, pattern_over, squares, rounds, pattern}
+use Rattle.dactl_terminals.specs.Parts.{Tok, Part_of, sign, behind, before, pair, upper, lower}
+use Rattle.dactl_syntax.specs.Productions.{any_of, int_of, char_of, number_of, character_of, pattern_sym_of, base, piece_of, piece, operator, chain_of, pattern_over, squares, rounds, pattern}
 
 -- what the first derives, the second does
 pub record Wider {A : Type 0} (P Q : Part_of A) : Type 0 where

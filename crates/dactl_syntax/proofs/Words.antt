@@ -11,9 +11,10 @@ use Rattle.dactl_tokens.specs.Spelling.{is_upper, is_lower, is_digit, is_word, i
 use Rattle.dactl_tokens.specs.Lexes.{IsGap, none, blank, IsLongest, Scans, ScansText, Lexes, has_header, header}
 use Rattle.dactl_tokens.proofs.OneReading.{kind_nil}
 use Rattle.dactl_syntax.specs.Canonical.{header_text}
-use Rattle.dactl_syntax.specs.Productions.{Tok}
-use Rattle.dactl_syntax.specs.Seen.{between, sort_of, token_seen, tokens_seen}
-use Rattle.dactl_syntax.proofs.TokenFacts.{between_is}
+use Rattle.dactl_terminals.specs.Parts.{Tok}
+use Rattle.dactl_terminals.specs.Seen.{between, tok_of, token_seen}
+use Rattle.dactl_syntax.specs.Answer.{tokens_seen}
+use Rattle.dactl_terminals.proofs.Told.{between_is}
 
 -- a word, what kind of token it is, and the blank behind it
 pub record Word : Type 0 where
@@ -46,7 +47,7 @@ after place (w ∷ ws) = after (next place w) ws
 
 -- the tokens of words from a place on, as the grammar sees them
 abbrev pub tok_at : ℕ → Word → Tok
-tok_at place w = record { sort = sort_of w.kind w.bytes; word = w.bytes; place = place }
+tok_at place w = tok_of false w.kind w.bytes place
 
 abbrev pub toks_at : ℕ → List Word → List Tok
 toks_at place [] = []
@@ -202,7 +203,7 @@ words_seen text pre place [] e f = refl
 words_seen text pre place (w ∷ ws) e f =
     let parts : text ≡ pre ++ (w.bytes ++ (w.blank ∷ text_of ws)) = e ∙ ap (λ (z : List ℕ). pre ++ z) (append_assoc w.bytes (w.blank ∷ []) (text_of ws)) in
     let bytes : between text place (place + length w.bytes) ≡ w.bytes = between_is text pre w.bytes (w.blank ∷ text_of ws) place (place + length w.bytes) parts f refl in
-    let first : token_seen text (token_at place w) ≡ tok_at place w = ap (λ (z : List ℕ). record { sort = sort_of w.kind z; word = z; place = place }) bytes in
+    let first : token_seen false text (token_at place w) ≡ tok_at place w = ap (λ (z : List ℕ). tok_of false w.kind z place) bytes in
     let word : List ℕ = w.bytes ++ w.blank ∷ [] in
     let later : tokens_seen text (tokens_at (next place w) ws) ≡ toks_at (next place w) ws =
     words_seen text (pre ++ word) (next place w) ws (e ∙ sym (append_assoc pre word (text_of ws))) (omega (arith, length-append pre word, length-append w.bytes (w.blank ∷ []))) in

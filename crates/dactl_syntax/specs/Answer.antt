@@ -1,13 +1,13 @@
 -- What is answered for the tokens of a text: its tree, or the first fault.
-use Rattle.std.specs.Prelude.{◌≡◌, ℕ, Bool, ◌||◌, ◌⊎◌, List, [], ◌∷◌, length}
-use Rattle.dactl_base.specs.declared.refusal.Kind.TheVariants as kinds
+use Rattle.std.specs.Prelude.{◌≡◌, ℕ, Bool, false, ◌||◌, List, length}
 use Rattle.dactl_base.specs.declared.refusal.Refusal.{Refusal}
-use Rattle.dactl_grammar.specs.Answer.{FirstUnexpected, FirstTooDeep}
 use Rattle.dactl_tokens.specs.declared.token.Token.{Token}
-use Rattle.dactl_syntax.specs.declared.token.Sort.TheVariants as s
+use Rattle.dactl_terminals.specs.declared.token.Sort.TheVariants as s
 use Rattle.dactl_meaning.specs.declared.tree.Text.{Text}
-use Rattle.dactl_syntax.specs.Productions.{Tok, is, text}
-use Rattle.dactl_syntax.specs.Seen.{tokens_seen}
+use Rattle.dactl_terminals.specs.Parts.{Tok, is}
+use Rattle.dactl_terminals.specs.Seen as seen
+use Rattle.dactl_terminals.specs.Answer.{IsFault}
+use Rattle.dactl_syntax.specs.Productions.{text}
 
 -- how many brackets may be open
 abbrev pub most_open : ℕ
@@ -17,30 +17,15 @@ most_open = 200
 abbrev pub is_bracket : Tok → Bool
 is_bracket t = is s.Open t || is s.Left t
 
+-- the tokens of the text as the grammar sees them
+abbrev pub tokens_seen : List ℕ → List Token → List Tok
+tokens_seen bytes tokens = seen.tokens_seen false bytes tokens
+
 -- the tokens of the text derive the tree, which has the text's length
 pub record IsTree (bytes : List ℕ) (tokens : List Token) (tree : Text) : Type 0 where
   pub derives : (text most_open).whole (tokens_seen bytes tokens) (tree.language, tree.modules)
   pub length : tree.length ≡ length bytes
 
--- where the next token stands, or the text ends
-abbrev pub next_place : ℕ → List Tok → ℕ
-next_place end [] = end
-next_place end (t ∷ l) = t.place
-
--- the first token such that the tokens up to and with it begin no text stands at a place; the end of the text counts as a token there
-pub record IsUnexpected (end : ℕ) (l : List Tok) (place : ℕ) : Type 0 where
-  pub left : ℕ
-  pub first : FirstUnexpected text most_open l left
-  pub at : place ≡ next_place end first.rest
-
--- the bracket with which one too many is open stands at a place
-pub record IsTooDeep (l : List Tok) (place : ℕ) : Type 0 where
-  pub left : ℕ
-  pub first : FirstTooDeep is_bracket text most_open l left
-  pub at : place ≡ first.bracket.place
-
 -- the first fault of the tokens of a text
 abbrev pub IsFirstFault : List ℕ → List Token → Refusal → Type 0
-IsFirstFault bytes tokens r =
-    ((r.kind ≡ kinds.Unexpected) × IsUnexpected (length bytes) (tokens_seen bytes tokens) r.place.byte)
-    ⊎ ((r.kind ≡ kinds.TooDeep) × IsTooDeep (tokens_seen bytes tokens) r.place.byte)
+IsFirstFault bytes tokens r = IsFault is_bracket text most_open (length bytes) (tokens_seen bytes tokens) r

@@ -1,6 +1,5 @@
 pub mod Sort
 pub mod Productions
-pub mod Seen
 pub mod Answer
 pub mod Reading
 pub mod Laws

@@ -1,10 +1,9 @@
 -- The grammar, one definition for each of its productions.
-use Rattle.std.specs.Prelude.{ℕ, zero, suc, ◌+◌, ℤ, pos, Bool, true, false, ◌&&◌, List, [], ◌∷◌, length, Option, Some, None, is_some, unwrap_or, min, if◌then◌else◌}
+use Rattle.std.specs.Prelude.{ℕ, zero, suc, ◌+◌, Bool, true, false, ◌&&◌, List, [], ◌∷◌, length, Option, Some, None, is_some, unwrap_or, min}
 use Rattle.std.specs.Str.{bytes_eq}
 use Rattle.dactl_base.specs.declared.refusal.Place.{Place}
-use Rattle.dactl_tokens.specs.Spelling.{is_too_wide, value_of}
-use Rattle.dactl_syntax.specs.declared.token.Sort.{Sort}
-use Rattle.dactl_syntax.specs.declared.token.Sort.TheVariants as s
+use Rattle.dactl_terminals.specs.declared.token.Sort.{Sort}
+use Rattle.dactl_terminals.specs.declared.token.Sort.TheVariants as s
 use Rattle.dactl_meaning.specs.declared.tree.Name.{Name}
 use Rattle.dactl_meaning.specs.declared.tree.Marks.{Marks}
 use Rattle.dactl_meaning.specs.declared.tree.Marks.TheVariants as marks
@@ -25,56 +24,12 @@ use Rattle.dactl_meaning.specs.declared.tree.Item.TheVariants as item
 use Rattle.dactl_model.specs.declared.program.Class.{Class}
 use Rattle.dactl_model.specs.declared.program.Class.TheVariants as classes
 use Rattle.dactl_meaning.specs.declared.tree.Module.{Module}
-use Rattle.dactl_syntax.specs.Sort.{same_sort, is_class}
-use Rattle.dactl_grammar.specs.Grammar.{Grammar, one, row, choice, maybe, many, means, barred, placed}
-
--- a token, its spelling and its place
-pub record Tok : Type 0 where
-  pub sort : Sort
-  pub word : List ℕ
-  pub place : ℕ
-
-abbrev pub Part_of : Type 0 → Type 1
-Part_of A = Grammar Tok A
-
-abbrev pub is : Sort → Tok → Bool
-is k t = same_sort k t.sort
-
-abbrev pub sign : Sort → Part_of Tok
-sign k = one (is k)
-
--- a part behind a token, and before one
-abbrev pub behind : {A : Type 0} → Sort → Part_of A → Part_of A
-behind k P = means (λ v. v.1) (row (sign k) (λ _. P))
-
-abbrev pub before : {A : Type 0} → Part_of A → Sort → Part_of A
-before P k = means (λ v. v.0) (row P (λ _. sign k))
-
--- a part, and then another that doesn't depend on it
-abbrev pub pair : {A B : Type 0} → Part_of A → Part_of B → Part_of (A × B)
-pair P Q = row P (λ _. Q)
-
-abbrev pub listed : {A : Type 0} → Part_of A → Part_of A → Part_of (List A)
-listed P Q = means (λ v. v.0 ∷ v.1) (pair P (many Q))
+use Rattle.dactl_terminals.specs.Parts.{Tok, Part_of, is, sign, behind, before, pair, listed, separated, here, upper, lower, names, value_at}
+use Rattle.dactl_syntax.specs.Sort.{is_class}
+use Rattle.dactl_grammar.specs.Grammar.{one, row, choice, maybe, many, means, barred, placed}
 
 abbrev pub several : {A : Type 0} → Part_of A → Part_of (List A)
 several P = listed P P
-
-abbrev pub separated : {A : Type 0} → Sort → Part_of A → Part_of (List A)
-separated k P = listed P (behind k P)
-
--- where a token stands
-abbrev pub here : Tok → Place
-here t = record { byte = t.place }
-
-abbrev pub name_of : Tok → Name
-name_of t = record { text = t.word; place = here t }
-
-abbrev pub upper : Part_of Name
-upper = means name_of (sign s.Upper)
-
-abbrev pub lower : Part_of Name
-lower = means name_of (sign s.Lower)
 
 -- ---- terms
 
@@ -98,13 +53,9 @@ letter [] = 0
 letter (quote ∷ []) = 0
 letter (quote ∷ byte ∷ more) = byte
 
--- the value of an integer's bytes, which fit 128 bits
-abbrev pub value_at : List ℕ → ℤ
-value_at w = if is_too_wide true w then pos 0 else value_of w
-
 -- node = Integer | Character | Upper ["[" {arg} "]"]
 abbrev pub integer_of : Tok → NodeTree
-integer_of t = node_tree.Integer (value_at t.word) (here t)
+integer_of t = node_tree.Integer (value_at true t.word) (here t)
 
 abbrev pub letter_of : Tok → NodeTree
 letter_of t = node_tree.Letter (letter t.word) (here t)
@@ -156,7 +107,7 @@ abbrev pub char_of : Tok → PatternTree
 char_of t = p.Char
 
 abbrev pub number_of : Tok → PatternTree
-number_of t = p.Integer (value_at t.word)
+number_of t = p.Integer (value_at true t.word)
 
 abbrev pub character_of : Tok → PatternTree
 character_of t = p.Letter (letter t.word)
@@ -256,9 +207,6 @@ abbrev pub group : ℕ → Part_of Group
 group n = means group_of (before (separated s.Bar (rule n)) s.Semicolon)
 
 -- ---- items
-
-abbrev pub names : Part_of (List Name)
-names = separated s.Comma upper
 
 -- imports = "IMPORTS" Upper {"," Upper} ";"
 abbrev pub imports_of : List Name → Item

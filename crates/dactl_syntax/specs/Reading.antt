@@ -1,7 +1,6 @@
 -- What reading each part of the grammar gives.
-use Rattle.std.specs.Prelude.{ℕ, zero, suc, ◌-◌, drop, Bool, false, ◌&&◌, List, [], ◌∷◌, length, Option, is_some}
-use Rattle.dactl_syntax.specs.declared.token.Sort.{Sort}
-use Rattle.dactl_syntax.specs.declared.token.Sort.TheVariants as s
+use Rattle.std.specs.Prelude.{ℕ, zero, suc, Bool, false, ◌&&◌, List, [], ◌∷◌, length, Option, is_some}
+use Rattle.dactl_terminals.specs.declared.token.Sort.TheVariants as s
 use Rattle.dactl_meaning.specs.declared.tree.Name.{Name}
 use Rattle.dactl_meaning.specs.declared.tree.Marks.{Marks}
 use Rattle.dactl_meaning.specs.declared.tree.NodeTree.{NodeTree}
@@ -14,43 +13,12 @@ use Rattle.dactl_meaning.specs.declared.tree.RuleTree.{RuleTree}
 use Rattle.dactl_meaning.specs.declared.tree.Group.{Group}
 use Rattle.dactl_meaning.specs.declared.tree.Item.{Item}
 use Rattle.dactl_meaning.specs.declared.tree.Module.{Module}
-use Rattle.dactl_base.specs.declared.refusal.Kind.{Kind}
-use Rattle.dactl_base.specs.declared.refusal.Kind.TheVariants as kinds
-use Rattle.dactl_base.specs.declared.refusal.Refusal.{Refusal}
-use Rattle.dactl_grammar.specs.declared.fault.Fault.{Fault}
-use Rattle.dactl_grammar.specs.declared.fault.Fault.TheVariants as faults
-use Rattle.dactl_syntax.specs.Answer.{next_place}
-use Rattle.dactl_syntax.specs.Sort.{same_sort, starts_mark, starts_arg, starts_piece, is_sign, is_class, starts_item}
-use Rattle.dactl_grammar.specs.Reader.{Reader, head_is, read_one, read_row, read_as, read_choice, read_maybe, read_many, read_barred, read_placed, fault_left}
-use Rattle.dactl_syntax.specs.Productions.{ClassHere, Tok, is, name_of, star_of, hashes_of, integer_of, letter_of, sym_of, named_of, bare_of, term_of, arg_of, part_term, part_redirect, any_of, int_of, char_of, number_of, character_of, pattern_sym_of, piece_of, plus_of, minus_of, chain_of, rewrites_of, redirects_of, rule_of, group_of, imports_of, class_at, symbols_of, pattern_named_of, rules_of, initial_of, is_name, module_of, language_of}
-
-abbrev pub Reads : Type 0 → Type 0
-Reads A = Reader Tok A
-
--- the next token's sort passes
-abbrev pub by : (Sort → Bool) → Tok → Bool
-by f t = f t.sort
-
-abbrev pub read_sign : Sort → Reads Tok
-read_sign k = read_one (is k)
-
-abbrev pub read_pair : {A B : Type 0} → Reads A → Reads B → Reads (A × B)
-read_pair R S = read_row R (λ _. S)
-
-abbrev pub read_behind : {A : Type 0} → Sort → Reads A → Reads A
-read_behind k R = read_as (λ v. v.1) (read_pair (read_sign k) R)
-
-abbrev pub read_before : {A : Type 0} → Reads A → Sort → Reads A
-read_before R k = read_as (λ v. v.0) (read_pair R (read_sign k))
-
-abbrev pub read_listed : {A : Type 0} → (Sort → Bool) → Reads A → Reads A → Reads (List A)
-read_listed f R S = read_as (λ v. v.0 ∷ v.1) (read_pair R (read_many (by f) S))
-
-unfoldable pub upper_at : Reads Name
-upper_at = read_as name_of (read_sign s.Upper)
-
-unfoldable pub lower_at : Reads Name
-lower_at = read_as name_of (read_sign s.Lower)
+use Rattle.dactl_terminals.specs.Sort.{same_sort}
+use Rattle.dactl_syntax.specs.Sort.{starts_mark, starts_arg, starts_piece, is_sign, is_class, starts_item}
+use Rattle.dactl_grammar.specs.Reader.{head_is, read_one, read_row, read_as, read_choice, read_maybe, read_many, read_barred, read_placed}
+use Rattle.dactl_terminals.specs.Parts.{Tok, is}
+use Rattle.dactl_terminals.specs.Reads.{Reads, by, read_sign, read_pair, read_behind, read_before, read_listed, upper_at, lower_at, names_at}
+use Rattle.dactl_syntax.specs.Productions.{ClassHere, star_of, hashes_of, integer_of, letter_of, sym_of, named_of, bare_of, term_of, arg_of, part_term, part_redirect, any_of, int_of, char_of, number_of, character_of, pattern_sym_of, piece_of, plus_of, minus_of, chain_of, rewrites_of, redirects_of, rule_of, group_of, imports_of, class_at, symbols_of, pattern_named_of, rules_of, initial_of, is_name, module_of, language_of}
 
 -- ---- terms
 
@@ -186,12 +154,6 @@ groups_at n = read_listed starts_piece (group_at n) (group_at n)
 
 -- ---- items
 
-unfoldable pub comma_upper_at : Reads Name
-comma_upper_at = read_behind s.Comma upper_at
-
-unfoldable pub names_at : Reads (List Name)
-names_at = read_listed (same_sort s.Comma) upper_at comma_upper_at
-
 unfoldable pub imports_at : Reads Item
 imports_at = read_as imports_of (read_behind s.Imports (read_before names_at s.Semicolon))
 
@@ -250,13 +212,3 @@ language_at = read_as language_of (read_maybe (by (same_sort s.Header)) (read_si
 
 unfoldable pub text_at : ℕ → Reads (ℕ × List Module)
 text_at n = read_pair language_at (modules_at n)
-
--- ---- faults
-
--- the refusal of a fault, told by how many tokens stand from it on
-abbrev pub kind_of : Fault → Kind
-kind_of (faults.Unexpected left) = kinds.Unexpected
-kind_of (faults.TooDeep left) = kinds.TooDeep
-
-abbrev pub refusal_of : ℕ → List Tok → Fault → Refusal
-refusal_of end l f = record { kind = kind_of f; place = record { byte = next_place end (drop (length l - fault_left f) l) } }

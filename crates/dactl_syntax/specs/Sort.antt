@@ -1,12 +1,7 @@
 -- Tests on the sorts of tokens.
 use Rattle.std.specs.Prelude.{Bool, true, false}
-use denote.Enum.Bare.{sameb}
-use Rattle.dactl_syntax.specs.declared.token.Sort.{Sort}
-use Rattle.dactl_syntax.specs.declared.token.Sort.TheVariants.{Upper, Lower, Integer, Character, Star, Hash, Wait, Left, Any, Int, Char, Plus, Minus, Rewritable, Overwritable, Creatable, Imports, Symbol, Pattern, Rule, Initial}
-use Rattle.dactl_syntax.specs.contracts.token.Sort.{the_type}
-
-unfoldable pub same_sort : Sort → Sort → Bool
-same_sort = sameb the_type
+use Rattle.dactl_terminals.specs.declared.token.Sort.{Sort}
+use Rattle.dactl_terminals.specs.declared.token.Sort.TheVariants.{Upper, Lower, Integer, Character, Star, Hash, Wait, Left, Any, Int, Char, Plus, Minus, Rewritable, Overwritable, Creatable, Imports, Symbol, Pattern, Rule, Initial}
 
 abbrev pub starts_mark : Sort → Bool
 starts_mark Star = true

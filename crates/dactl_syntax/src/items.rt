@@ -5,52 +5,19 @@ ghost use Rattle.dactl_grammar.specs.Giving.{Gives};
 ghost use Rattle.dactl_syntax.specs.Sort.{is_class};
 ghost use Rattle.dactl_syntax.specs.Productions.{class_of};
 ghost use Rattle.dactl_syntax.specs.Reading as spec;
-ghost use Rattle.dactl_syntax.specs.Seen.{toks};
+ghost use Rattle.dactl_terminals.specs.Seen.{toks};
 
 use crate::patterns::pattern;
 use crate::rules::groups;
-use crate::terms::{term, upper};
-use crate::token::{Sort, Terminal, next_is, one, place_of};
+use crate::terms::term;
 use dactl_base::refusal::Place;
 use dactl_grammar::fault::{Fault, ReadError};
-use dactl_meaning::tree::{Item, Name, TermTree};
+use dactl_meaning::tree::{Item, TermTree};
 use dactl_model::program::Class;
+use dactl_terminals::names::{names, upper};
+use dactl_terminals::token::{Sort, Terminal, next_is, one, place_of};
 use sqlite_items::Items;
 use std::alloc::Global;
-
-#[tactic(auto, unfolding(crate::specs::Reading::comma_upper_at))]
-fn comma_upper<'a>(
-    alloc: Global,
-    text: &[u8],
-    tokens: &'a [Terminal],
-) -> Result<(Name, &'a [Terminal]), ReadError>
-    ensures { Gives (λ x. (x.0, toks text.now x.1.now)) result
-        (spec.comma_upper_at (toks text.now tokens.now)) }
-{
-    let (_, rest) = one(text, tokens, Sort::Comma)?;
-    upper(alloc, text, rest)
-}
-
-#[tactic(auto, unfolding(crate::specs::Reading::names_at))]
-fn names<'a>(
-    alloc: Global,
-    text: &[u8],
-    tokens: &'a [Terminal],
-) -> Result<(Items<Name>, &'a [Terminal]), ReadError>
-    ensures { Gives (λ x. (x.0, toks text.now x.1.now)) result
-        (spec.names_at (toks text.now tokens.now)) }
-{
-    let (first, after) = upper(alloc, text, tokens)?;
-    let mut found = Items::new(alloc);
-    found.push(first)?;
-    let mut rest = after;
-    'more: while next_is(rest, Sort::Comma) {
-        let (item, after) = comma_upper(alloc, text, rest)?;
-        found.push(item)?;
-        rest = after;
-    }
-    Ok((found, rest))
-}
 
 #[tactic(auto, unfolding(crate::specs::Reading::imports_at))]
 fn imports<'a>(

@@ -6,18 +6,19 @@ ghost use Rattle.dactl_grammar.specs.Giving.{Gives};
 ghost use Rattle.dactl_syntax.specs.Sort.{starts_item};
 ghost use Rattle.dactl_syntax.specs.Productions.{is_name};
 ghost use Rattle.dactl_syntax.specs.Reading as spec;
-ghost use Rattle.dactl_syntax.specs.Seen.{seen, toks};
+ghost use Rattle.dactl_terminals.specs.Reads.{by};
+ghost use Rattle.dactl_terminals.specs.Seen.{seen, toks};
 
 use crate::items::item;
-use crate::terms::upper;
-use crate::token::{Sort, Terminal, next_is, one, same_sort, word};
 use dactl_grammar::fault::{Fault, ReadError};
 use dactl_meaning::tree::{Item, Module, Name};
+use dactl_terminals::names::upper;
+use dactl_terminals::token::{Sort, Terminal, next_is, one, same_sort, word};
 use sqlite_items::Items;
 use std::alloc::Global;
 
 fn starts_item(tokens: &[Terminal]) -> bool
-    ensures { (text : List ℕ) → result ≡ head_is (spec.by starts_item) (toks text tokens.now) }
+    ensures { (text : List ℕ) → result ≡ head_is (by starts_item) (toks text tokens.now) }
 {
     match tokens {
         [] => false,

@@ -4,15 +4,17 @@ ghost use Rattle.std.specs.Prelude.{◌≡◌, ℕ, List, IfOk};
 ghost use Rattle.dactl_syntax.specs.Sort.{is_sign, starts_piece};
 ghost use Rattle.dactl_syntax.specs.Productions.{chain_at};
 ghost use Rattle.dactl_grammar.specs.Reader.{head_is};
-ghost use Rattle.dactl_syntax.specs.Reading.{by, operator_at, base_at, piece_reads, pattern_at};
+ghost use Rattle.dactl_terminals.specs.Reads.{by};
+ghost use Rattle.dactl_syntax.specs.Reading.{operator_at, base_at, piece_reads, pattern_at};
 ghost use Rattle.dactl_syntax.specs.Reading.{squares_at, rounds_at, pieces_at, links_at, link_at};
 ghost use Rattle.dactl_grammar.specs.Giving.{Gives};
-ghost use Rattle.dactl_syntax.specs.Seen.{toks};
+ghost use Rattle.dactl_terminals.specs.Seen.{toks};
 
-use crate::terms::{lower, upper};
-use crate::token::{Sort, Terminal, letter, next_is, one, value};
+use crate::terms::letter;
 use dactl_grammar::fault::{Fault, ReadError};
 use dactl_meaning::tree::{PatternTree, Sign};
+use dactl_terminals::names::{lower, upper};
+use dactl_terminals::token::{Sort, Terminal, next_is, one, value};
 use sqlite_items::{Boxed, Items};
 use std::alloc::{AllocError, Global};
 
@@ -84,7 +86,7 @@ fn base<'a>(
     }
     if next_is(tokens, Sort::Integer) {
         let (token, rest) = one(text, tokens, Sort::Integer)?;
-        let value = value(text, token);
+        let value = value(true, text, token);
         return Ok((PatternTree::Integer { value }, rest));
     }
     if next_is(tokens, Sort::Character) {

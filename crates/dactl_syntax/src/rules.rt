@@ -3,16 +3,17 @@
 ghost use Rattle.std.specs.Prelude.{◌≡◌, ℕ, List};
 ghost use Rattle.dactl_grammar.specs.Grammar.{place_of as first_place};
 ghost use Rattle.dactl_grammar.specs.Giving.{Gives};
-ghost use Rattle.dactl_syntax.specs.Productions.{Tok};
+ghost use Rattle.dactl_terminals.specs.Parts.{Tok};
 ghost use Rattle.dactl_syntax.specs.Reading as spec;
-ghost use Rattle.dactl_syntax.specs.Seen.{toks};
+ghost use Rattle.dactl_terminals.specs.Seen.{toks};
 
 use crate::patterns::{pattern, starts_piece};
-use crate::terms::{lower, term};
-use crate::token::{Sort, Terminal, next_is, one, same_sort};
+use crate::terms::term;
 use dactl_base::refusal::Place;
 use dactl_grammar::fault::ReadError;
 use dactl_meaning::tree::{Group, Part, RuleTree};
+use dactl_terminals::names::lower;
+use dactl_terminals::token::{Sort, Terminal, next_is, one, same_sort};
 use sqlite_items::Items;
 use std::alloc::Global;
 

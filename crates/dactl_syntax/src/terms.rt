@@ -3,53 +3,28 @@
 ghost use Rattle.std.specs.Prelude.{◌≡◌, ◌≤◌, ◌+◌, ℕ, List, IfOk, length, min};
 ghost use Rattle.dactl_syntax.specs.Sort.{starts_mark, starts_arg};
 ghost use Rattle.dactl_grammar.specs.Reader.{head_is, read_many};
-ghost use Rattle.dactl_syntax.specs.Reading.{by, upper_at, lower_at, hashes_at, mark_at, node_at};
-ghost use Rattle.dactl_syntax.specs.Reading.{body_at, term_at, arg_at, args_at};
+ghost use Rattle.dactl_terminals.specs.Reads.{by};
+ghost use Rattle.dactl_syntax.specs.Reading.{hashes_at, mark_at, node_at, body_at, term_at, arg_at};
+ghost use Rattle.dactl_syntax.specs.Reading.{args_at};
 ghost use Rattle.dactl_grammar.specs.Giving.{Gives};
-ghost use Rattle.dactl_syntax.specs.Seen.{toks};
+ghost use Rattle.dactl_syntax.specs.Productions.{letter};
+ghost use Rattle.dactl_terminals.specs.Seen.{word_of, toks};
 
-use crate::token::{Sort, Terminal, letter, name_at, next_is, one, place_of, value};
 use dactl_grammar::fault::{Fault, ReadError};
 use dactl_meaning::tree::{ArgTree, Marks, Name, NodeTree, TermTree};
+use dactl_terminals::names::{lower, upper};
+use dactl_terminals::token::{Sort, Terminal, next_is, one, place_of, value, word};
 use sqlite_items::Items;
 use std::alloc::Global;
 
-/// Reads a name that begins with `A` to `Z`.
-///
-/// # Errors
-///
-/// `Fault` where another token comes next, as `one` has it, and `Memory` where memory for the name
-/// is wanting.
-#[tactic(auto, unfolding(crate::specs::Reading::upper_at))]
-pub fn upper<'a>(
-    alloc: Global,
-    text: &[u8],
-    tokens: &'a [Terminal],
-) -> Result<(Name, &'a [Terminal]), ReadError>
-    ensures { Gives (λ x. (x.0, toks text.now x.1.now)) result
-        (upper_at (toks text.now tokens.now)) }
+/// The byte of a character, which stands between its two `'`.
+pub fn letter(text: &[u8], token: Terminal) -> u8
+    ensures { result ≡ letter (word_of text.now token) }
 {
-    let (token, rest) = one(text, tokens, Sort::Upper)?;
-    Ok((name_at(alloc, text, token)?, rest))
-}
-
-/// Reads a name that begins with `a` to `z`.
-///
-/// # Errors
-///
-/// `Fault` where another token comes next, as `one` has it, and `Memory` where memory for the name
-/// is wanting.
-#[tactic(auto, unfolding(crate::specs::Reading::lower_at))]
-pub fn lower<'a>(
-    alloc: Global,
-    text: &[u8],
-    tokens: &'a [Terminal],
-) -> Result<(Name, &'a [Terminal]), ReadError>
-    ensures { Gives (λ x. (x.0, toks text.now x.1.now)) result
-        (lower_at (toks text.now tokens.now)) }
-{
-    let (token, rest) = one(text, tokens, Sort::Lower)?;
-    Ok((name_at(alloc, text, token)?, rest))
+    match word(text, token) {
+        [_, byte, ..] => *byte,
+        _ => 0,
+    }
 }
 
 fn starts_mark(tokens: &[Terminal]) -> bool
@@ -92,7 +67,7 @@ fn node<'a>(
 {
     if next_is(tokens, Sort::Integer) {
         let (token, rest) = one(text, tokens, Sort::Integer)?;
-        let value = value(text, token);
+        let value = value(true, text, token);
         let place = place_of(token);
         return Ok((NodeTree::Integer { value, place }, rest));
     }

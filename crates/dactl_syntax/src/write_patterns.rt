@@ -1,6 +1,6 @@
 //! Patterns of a canonical text.
 
-ghost use Rattle.std.specs.Prelude.{◌≡◌, ◌++◌, OnOk, List, map};
+ghost use Rattle.std.specs.Prelude.{◌≡◌, ◌++◌, OnOk, map};
 ghost use Rattle.std.specs.List.{concat};
 ghost use Rattle.dactl_syntax.specs.Canonical.{pattern_text, tail_text, brackets, piece_of};
 ghost use Rattle.dactl_syntax.specs.Canonical.{sign_text};

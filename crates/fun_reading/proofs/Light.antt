@@ -1,5 +1,5 @@
 -- The right sides and `MAIN` of equations that a text reads weigh at most twice as much as the text has tokens.
-use Rattle.std.proofs.Common.{◌≡◌, ℕ, zero, suc, ◌+◌, ◌*◌, ◌≤◌, ◌<◌, ◌^◌, List, [], ◌∷◌, map, length, Option, Some, None, slice_get, sym, ap, ◌∙◌, arith}
+use Rattle.std.proofs.Common.{◌≡◌, ℕ, zero, suc, ◌+◌, ◌*◌, ◌≤◌, ◌<◌, ◌^◌, List, [], ◌∷◌, map, length, Option, Some, None, slice_get, sym, ap, ◌∙◌, arith, true, false}
 use Rattle.std.specs.List.{sum}
 use Rattle.std.proofs.lemmas.List.{length-map}
 use Rattle.dactl_meaning.specs.declared.tree.Name.{Name}
@@ -10,10 +10,11 @@ use Rattle.fun_meaning.specs.declared.tree.Expr.TheFolds.{fold-roll-Expr}
 use Rattle.fun_meaning.specs.declared.tree.Equation.{Equation}
 use Rattle.fun_meaning.specs.declared.tree.Fun.{Fun}
 use Rattle.fun_meaning.specs.Spelt.{weight_level, weight_of}
-use Rattle.fun_syntax.specs.declared.token.Sort.TheVariants as s
-use Rattle.fun_syntax.specs.Productions.{Tok, Part_of, upper, lower, name_of, given_of, given, variable_of, value_at, integer_of, made_of, expr, args, equation_of, equation, asked, fun_of, fun}
-use Rattle.fun_syntax.specs.Seen.{token_seen, tokens_seen}
-use Rattle.fun_syntax.specs.Answer.{most_open}
+use Rattle.dactl_terminals.specs.declared.token.Sort.TheVariants as s
+use Rattle.dactl_terminals.specs.Parts.{Tok, Part_of, upper, lower, name_of, value_at}
+use Rattle.fun_syntax.specs.Productions.{given_of, given, variable_of, integer_of, made_of, expr, args, equation_of, equation, asked, fun_of, fun}
+use Rattle.dactl_terminals.specs.Seen.{token_seen}
+use Rattle.fun_syntax.specs.Answer.{tokens_seen, most_open}
 use Rattle.fun_reading.specs.Statements.{ReadAreLight}
 use Rattle.fun_reading.proofs.LightTokens.{tokens_few}
 use Rattle.fun_reading.proofs.LightParts.{Weighs, total, if_there, total_is, weighs_nothing, weighs_sign, weighs_row, weighs_means, weighs_choice, weighs_maybe, weighs_many, weighs_barred, weighs_behind, weighs_before}
@@ -33,7 +34,7 @@ variable_few n =
 
 integer_few : (t : Tok) → weight_of (integer_of t) ≤ 2
 integer_few t =
-    let one : weight_of (integer_of t) ≡ 1 = ap weight_of (sym (rolls-Integer (value_at t.word))) ∙ fold-roll-Expr ℕ weight_level (Expr-F.Integer (value_at t.word)) in
+    let one : weight_of (integer_of t) ≡ 1 = ap weight_of (sym (rolls-Integer (value_at false t.word))) ∙ fold-roll-Expr ℕ weight_level (Expr-F.Integer (value_at false t.word)) in
     omega (arith, one)
 
 made_few : (v : Name × List Expr) → weight_of (made_of v) ≤ 2 + total weight_of v.1
@@ -100,7 +101,7 @@ few tokens weight count most = omega (arith, count, most)
 pub read_are_light : ReadAreLight
 read_are_light bytes e short reads =
     let most = (fun_weighs most_open).of (tokens_seen bytes reads.tokens) e reads.derives in
-    let long = length-map reads.tokens (token_seen bytes) in
+    let long = length-map reads.tokens (token_seen true bytes) in
     let tokens = tokens_few bytes reads.tokens reads.lexes in
     let count : length (tokens_seen bytes reads.tokens) ≤ 1048577 = omega (arith, short, long, tokens) in
     let whole : fun_weight e < 2 ^ 31 = few (length (tokens_seen bytes reads.tokens)) (fun_weight e) count most in

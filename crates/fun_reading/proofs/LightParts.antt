@@ -3,8 +3,8 @@ use Rattle.std.proofs.Common.{◌≡◌, ℕ, ◌+◌, ◌*◌, ◌≤◌, inl, 
 use Rattle.std.specs.List.{sum}
 use Rattle.std.proofs.lemmas.List.Sums.{sum_by-cons}
 use Rattle.dactl_grammar.specs.Grammar.{WholeRow, row, choice, WholeMaybe, maybe, WholeMany, many, WholeAs, means, barred}
-use Rattle.fun_syntax.specs.declared.token.Sort.{Sort}
-use Rattle.fun_syntax.specs.Productions.{Tok, Part_of, sign, behind, before}
+use Rattle.dactl_terminals.specs.declared.token.Sort.{Sort}
+use Rattle.dactl_terminals.specs.Parts.{Tok, Part_of, sign, behind, before}
 
 -- each meaning weighs at most twice as much as its tokens are many
 pub record Weighs {A : Type 0} (P : Part_of A) (weight : A → ℕ) : Type 0 where

@@ -15,11 +15,11 @@ use Rattle.fun_meaning.specs.declared.tree.Fun.{Fun}
 use Rattle.fun_meaning.specs.Names.{Spelling, check_name}
 use Rattle.fun_meaning.specs.Functions.{first_ones, functions, constructors as constructors_of, names_of}
 use Rattle.fun_meaning.specs.Spelt.{words_level, has_words, AreSpelt}
-use Rattle.fun_syntax.specs.declared.token.Sort.{Sort}
-use Rattle.fun_syntax.specs.declared.token.Sort.TheVariants as s
-use Rattle.fun_syntax.specs.Productions.{Tok, Part_of, is, name_of, behind, before, separated, upper, lower, given_of, given, variable_of, value_at, integer_of, made_of, expr, args, equation_of, equation, constructors, joined, fun_of, fun}
-use Rattle.fun_syntax.specs.Seen.{tokens_seen}
-use Rattle.fun_syntax.specs.Answer.{most_open}
+use Rattle.dactl_terminals.specs.declared.token.Sort.{Sort}
+use Rattle.dactl_terminals.specs.declared.token.Sort.TheVariants as s
+use Rattle.dactl_terminals.specs.Parts.{Tok, Part_of, is, name_of, behind, before, separated, upper, lower, value_at}
+use Rattle.fun_syntax.specs.Productions.{given_of, given, variable_of, integer_of, made_of, expr, args, equation_of, equation, constructors, joined, fun_of, fun}
+use Rattle.fun_syntax.specs.Answer.{tokens_seen, most_open}
 use Rattle.fun_reading.specs.Statements.{ReadAreSpelt}
 use Rattle.fun_meaning.proofs.Zips.{each_map, each_append, each_at}
 use Rattle.fun_reading.proofs.Lists.{each_split, each_first}
@@ -71,8 +71,8 @@ all_words (e ∷ given) h = rw (h.0, all_words given h.1) refl
 variable_words : (n : Name) → HasWords (variable_of n)
 variable_words n = ap has_words (sym (rolls-Variable n)) ∙ fold-roll-Expr Bool words_level (Expr-F.Variable n)
 
-integer_words : (t : Tok) → is_word (value_at t.word) ≡ true → HasWords (integer_of t)
-integer_words t h = ap has_words (sym (rolls-Integer (value_at t.word))) ∙ fold-roll-Expr Bool words_level (Expr-F.Integer (value_at t.word)) ∙ h
+integer_words : (t : Tok) → is_word (value_at false t.word) ≡ true → HasWords (integer_of t)
+integer_words t h = ap has_words (sym (rolls-Integer (value_at false t.word))) ∙ fold-roll-Expr Bool words_level (Expr-F.Integer (value_at false t.word)) ∙ h
 
 made_words : (v : Name × List Expr) → Each HasWords v.1 → HasWords (made_of v)
 made_words v h = ap has_words (sym (rolls-Made v.0 v.1)) ∙ fold-roll-Expr Bool words_level (Expr-F.Made v.0 v.1) ∙ all_words v.1 h

@@ -1,51 +1,23 @@
 -- With one more bracket each part of the grammar reads the same, or more.
-use Rattle.std.proofs.Common.{ℕ, zero, suc, Bool, false, inl, List, [], ◌∷◌, refl}
-use Rattle.dactl_meaning.specs.declared.tree.Name.{Name}
+use Rattle.std.proofs.Common.{ℕ, zero, suc, false, inl, List, [], refl}
 use Rattle.fun_meaning.specs.declared.tree.Expr.{Expr}
-use Rattle.fun_syntax.specs.declared.token.Sort.{Sort}
-use Rattle.fun_syntax.specs.declared.token.Sort.TheVariants as s
-use Rattle.fun_syntax.specs.Sort.{same_sort, starts_expr}
-use Rattle.dactl_grammar.specs.Grammar.{row, choice, maybe, many, means, barred}
-use Rattle.dactl_grammar.specs.Reader.{head_is, read_row, read_choice, read_maybe, read_many}
-use Rattle.fun_syntax.specs.Productions.{Tok, Part_of, is, sign, behind, before, separated, upper, lower, name_of, given_of, given, variable_of, integer_of, made_of, expr, args, equation_of, equation, constructors, asked, joined, fun_of, fun}
-use Rattle.fun_syntax.specs.Reading.{Reads, by, read_sign, read_behind, read_before, upper_at, lower_at, read_given, read_expr, args_at, given_at, expr_at, right_at, equation_at, equations_at, comma_upper_at, names_at, data_at, constructors_at, asked_at, fun_at}
+use Rattle.dactl_terminals.specs.declared.token.Sort.TheVariants as s
+use Rattle.dactl_terminals.specs.Sort.{same_sort}
+use Rattle.fun_syntax.specs.Sort.{starts_expr}
+use Rattle.dactl_grammar.specs.Grammar.{many, means, barred}
+use Rattle.dactl_grammar.specs.Reader.{head_is, read_many}
+use Rattle.dactl_terminals.specs.Parts.{Part_of, is, behind, before}
+use Rattle.fun_syntax.specs.Productions.{given_of, given, variable_of, integer_of, made_of, expr, args, equation_of, equation, constructors, asked, joined, fun_of, fun}
+use Rattle.dactl_terminals.specs.Reads.{Reads, by, read_behind, read_before}
+use Rattle.fun_syntax.specs.Reading.{read_given, read_expr, args_at, given_at, expr_at, right_at, equation_at, equations_at, data_at, constructors_at, asked_at, fun_at}
 use Rattle.fun_syntax.specs.Answer.{is_bracket}
-use Rattle.fun_syntax.proofs.Fits.{Fit, Solid, fit_sign, a_many}
-use Rattle.fun_syntax.proofs.Parts.{goes_on_args, fit_upper, fit_expr, solid_expr, fit_args, solid_args, fit_given_at, fit_expr_at, fit_names, fit_comma_upper, fit_data, fit_constructors, right, fit_equation, fit_equations}
-use Rattle.dactl_grammar.proofs.Grows.{Grows, grows_one, grows_means, grows_row, grows_choice, grows_maybe, grows_many, grows_barred}
+use Rattle.dactl_terminals.proofs.Fits.{Fit, Solid, a_many, fit_upper, fit_names}
+use Rattle.fun_syntax.proofs.Parts.{goes_on_args, fit_expr, solid_expr, fit_args, solid_args, fit_given_at, fit_expr_at, fit_data, fit_constructors, right, fit_equation, fit_equations}
+use Rattle.dactl_grammar.proofs.Grows.{Grows, grows_means, grows_barred}
+use Rattle.dactl_terminals.proofs.Grown.{g_sign, g_row, g_choice, g_maybe, g_many, g_behind, g_before, g_upper, g_lower, g_names}
 
 abbrev pub Grown : {A : Type 0} → Part_of A → Reads A → Part_of A → Reads A → Type 0
 Grown P R P' R' = Grows is_bracket P R P' R'
-
-g_sign : (k : Sort) → Grown (sign k) (read_sign k) (sign k) (read_sign k)
-g_sign k = grows_one is_bracket (is k)
-
-g_row : {A B : Type 0} {P P' : Part_of A} {Q Q' : A → Part_of B} {R R' : Reads A} {S S' : A → Reads B} {f m : Sort → Bool}
-    → Fit P R f m → Grown P R P' R' → ((a : A) → Grown (Q a) (S a) (Q' a) (S' a)) → Grown (row P Q) (read_row R S) (row P' Q') (read_row R' S')
-g_row {A} {B} {P} {P'} {Q} {Q'} {R} {R'} {S} {S'} p g h = grows_row is_bracket P P' Q Q' R R' S S' p.exact.sound g h
-
-g_choice : {A : Type 0} (d : List Tok → Bool) {P P' Q Q' : Part_of A} {R R' S S' : Reads A} → Grown P R P' R' → Grown Q S Q' S' → Grown (choice P Q) (read_choice d R S) (choice P' Q') (read_choice d R' S')
-g_choice d {P} {P'} {Q} {Q'} {R} {R'} {S} {S'} g h = grows_choice is_bracket d P P' Q Q' R R' S S' g h
-
-g_maybe : {A : Type 0} (d : Sort → Bool) {P P' : Part_of A} {R R' : Reads A} {f m : Sort → Bool} → Fit P R f m → Grown P R P' R' → Grown (maybe P) (read_maybe (by d) R) (maybe P') (read_maybe (by d) R')
-g_maybe d {P} {P'} {R} {R'} p g = grows_maybe is_bracket (by d) P P' R R' p.exact.sound g
-
-g_many : {A : Type 0} (d : Sort → Bool) {P P' : Part_of A} {R R' : Reads A} {f m : Sort → Bool} → Fit P R f m → Grown P R P' R' → Grown (many P) (read_many (by d) R) (many P') (read_many (by d) R')
-g_many d {P} {P'} {R} {R'} p g = grows_many is_bracket (by d) P P' R R' p.exact.sound g
-
-g_behind : {A : Type 0} (k : Sort) {P P' : Part_of A} {R R' : Reads A} → Grown P R P' R' → Grown (behind k P) (read_behind k R) (behind k P') (read_behind k R')
-g_behind {A} k g = grows_means (λ (v : Tok × A). v.1) (g_row (fit_sign k) (g_sign k) (λ _. g))
-
-g_before : {A : Type 0} (k : Sort) {P P' : Part_of A} {R R' : Reads A} {f m : Sort → Bool} → Fit P R f m → Grown P R P' R' → Grown (before P k) (read_before R k) (before P' k) (read_before R' k)
-g_before {A} k p g = grows_means (λ (v : A × Tok). v.0) (g_row p g (λ _. g_sign k))
-
-g_upper : Grown upper upper_at upper upper_at
-unfolding upper_at
-g_upper = grows_means name_of (g_sign s.Upper)
-
-g_lower : Grown lower lower_at lower lower_at
-unfolding lower_at
-g_lower = grows_means name_of (g_sign s.Lower)
 
 -- ---- expressions
 
@@ -75,10 +47,6 @@ unfolding expr_at
 g_expr_at n = g_expr (args n) (args (suc n)) (args_at n) (args_at (suc n)) (fit_args n) (solid_args n) (g_args n)
 
 -- ---- constructors and equations
-
-g_names : Grown (separated s.Comma upper) names_at (separated s.Comma upper) names_at
-unfolding names_at comma_upper_at
-g_names = grows_means (λ (v : Name × List Name). v.0 ∷ v.1) (g_row fit_upper g_upper (λ _. g_many (same_sort s.Comma) fit_comma_upper (g_behind s.Comma g_upper)))
 
 g_data : Grown constructors data_at constructors data_at
 unfolding data_at

@@ -1,5 +1,3 @@
-pub mod Sorts
-pub mod Fits
 pub mod Parts
 pub mod Growth
 pub mod Steps

@@ -1,47 +1,18 @@
 -- Reading equations is exact for their grammar.
-use Rattle.std.proofs.Common.{◌≡◌, ℕ, zero, suc, Bool, true, inl, inr, List, ◌∷◌, refl}
+use Rattle.std.proofs.Common.{ℕ, zero, suc, Bool, inl, inr, List, refl}
 use Rattle.std.specs.Prelude.{◌||◌}
-use Rattle.dactl_meaning.specs.declared.tree.Name.{Name}
 use Rattle.fun_meaning.specs.declared.tree.Expr.{Expr}
-use Rattle.fun_syntax.specs.declared.token.Sort.{Sort}
-use Rattle.fun_syntax.specs.declared.token.Sort.TheVariants as s
-use Rattle.fun_syntax.specs.Sort.{same_sort, starts_expr}
+use Rattle.dactl_terminals.specs.declared.token.Sort.{Sort}
+use Rattle.dactl_terminals.specs.declared.token.Sort.TheVariants as s
+use Rattle.dactl_terminals.specs.Sort.{same_sort}
+use Rattle.fun_syntax.specs.Sort.{starts_expr}
 use Rattle.dactl_grammar.specs.Grammar.{choice, many, means}
 use Rattle.dactl_grammar.specs.Reader.{read_many}
-use Rattle.fun_syntax.specs.Productions.{Tok, Part_of, sign, behind, before, pair, separated, name_of, upper, lower, given_of, given, variable_of, integer_of, made_of, expr, args, equation_of, equation, constructors, asked, joined, fun_of, fun}
-use Rattle.fun_syntax.specs.Reading.{Reads, by, read_behind, read_before, upper_at, lower_at, read_given, read_expr, args_at, given_at, expr_at, right_at, equation_at, equations_at, comma_upper_at, names_at, data_at, constructors_at, asked_at, fun_at}
-use Rattle.fun_syntax.proofs.Sorts.{every, bars, implies, clears}
-use Rattle.fun_syntax.proofs.Fits.{none, Solid, Fit, fit_sign, solid_sign, solid_means, solid_row_first, solid_row_second, fit_barred, solid_barred, a_row, a_choice, a_maybe, a_many, a_meaning}
-
-pub solid_choice_of : {A : Type 0} (P Q : Part_of A) → Solid P → Solid Q → Solid (choice P Q)
-solid_choice_of P Q p q a w = elim w [ inl k ↦ p a k | inr k ↦ q a k ]
-
--- a part behind a token, and before one
-pub a_behind : {A : Type 0} {P : Part_of A} {R : Reads A} {f m : Sort → Bool} (k : Sort) → Fit P R f m → Solid P → every (bars f none) ≡ true → every (clears m m) ≡ true → every (implies (same_sort k) (same_sort k)) ≡ true → Fit (behind k P) (read_behind k R) (same_sort k) m
-a_behind {A} {P} {R} {f} {m} k p sp a b c = a_meaning (λ (v : Tok × A). v.1) (a_row (same_sort k) m (fit_sign k) (λ _. p) a b (inl (λ _. sp)) c (inl (solid_sign k)))
-
-pub solid_behind : {A : Type 0} (k : Sort) (P : Part_of A) → Solid (behind k P)
-solid_behind k P = solid_means (λ v. v.1) (pair (sign k) P) (solid_row_first (sign k) (λ _. P) (solid_sign k))
-
-pub a_before : {A : Type 0} {P : Part_of A} {R : Reads A} {f m : Sort → Bool} (k : Sort) → Fit P R f m → Solid P → every (bars (same_sort k) m) ≡ true → every (clears none none) ≡ true → every (implies f f) ≡ true → Fit (before P k) (read_before R k) f none
-a_before {A} {P} {R} {f} {m} k p sp a b c = a_meaning (λ (v : A × Tok). v.0) (a_row f none p (λ _. fit_sign k) a b (inl (λ _. solid_sign k)) c (inl sp))
-
-pub solid_before : {A : Type 0} (P : Part_of A) (k : Sort) → Solid (before P k)
-solid_before P k = solid_means (λ v. v.0) (pair P (sign k)) (solid_row_second P (λ _. sign k) (λ _. solid_sign k))
-
-pub fit_upper : Fit upper upper_at (same_sort s.Upper) none
-unfolding upper_at
-fit_upper = a_meaning name_of (fit_sign s.Upper)
-
-pub fit_lower : Fit lower lower_at (same_sort s.Lower) none
-unfolding lower_at
-fit_lower = a_meaning name_of (fit_sign s.Lower)
-
-pub solid_upper : Solid upper
-solid_upper = solid_means name_of (sign s.Upper) (solid_sign s.Upper)
-
-pub solid_lower : Solid lower
-solid_lower = solid_means name_of (sign s.Lower) (solid_sign s.Lower)
+use Rattle.dactl_terminals.specs.Parts.{Tok, Part_of, sign, behind, before, pair, separated, upper, lower}
+use Rattle.fun_syntax.specs.Productions.{given_of, given, variable_of, integer_of, made_of, expr, args, equation_of, equation, constructors, asked, joined, fun_of, fun}
+use Rattle.dactl_terminals.specs.Reads.{Reads, by, read_behind, read_before}
+use Rattle.fun_syntax.specs.Reading.{read_given, read_expr, args_at, given_at, expr_at, right_at, equation_at, equations_at, data_at, constructors_at, asked_at, fun_at}
+use Rattle.dactl_terminals.proofs.Fits.{none, Solid, Fit, fit_sign, solid_sign, solid_means, solid_row_first, solid_row_second, fit_barred, solid_barred, a_row, a_choice, a_maybe, a_many, a_meaning, solid_choice_of, a_behind, solid_behind, a_before, solid_before, fit_upper, fit_lower, solid_upper, solid_lower, fit_names, solid_names}
 
 -- ---- expressions
 
@@ -122,17 +93,6 @@ pub solid_expr_at : (n : ℕ) → Solid (expr (args n))
 solid_expr_at n = solid_expr (args n) (args_at n) (fit_args n) (solid_args n)
 
 -- ---- constructors
-
-pub fit_comma_upper : Fit (behind s.Comma upper) comma_upper_at (same_sort s.Comma) none
-unfolding same_sort comma_upper_at
-fit_comma_upper = a_behind s.Comma fit_upper solid_upper refl refl refl
-
-pub fit_names : Fit (separated s.Comma upper) names_at (same_sort s.Upper) (same_sort s.Comma)
-unfolding same_sort names_at
-fit_names = a_meaning (λ (v : Name × List Name). v.0 ∷ v.1) (a_row (same_sort s.Upper) (same_sort s.Comma) fit_upper (λ _. a_many (same_sort s.Comma) fit_comma_upper (solid_behind s.Comma upper) refl refl refl) refl refl (inr refl) refl (inl solid_upper))
-
-solid_names : Solid (separated s.Comma upper)
-solid_names = solid_means (λ v. v.0 ∷ v.1) (pair upper (many (behind s.Comma upper))) (solid_row_first upper (λ _. many (behind s.Comma upper)) solid_upper)
 
 pub fit_data : Fit constructors data_at (same_sort s.Data) none
 unfolding same_sort data_at

@@ -1,19 +1,20 @@
 -- What the loops and the steps over brackets cite.
-use Rattle.std.proofs.Common.{◌≡◌, ℕ, zero, suc, ◌-◌, ◌<◌, true, false, List, [], ◌∷◌, ◌++◌, length, Ok, Err, refl, sym, ap, subst, ◌∙◌, append_assoc, arith}
-use Rattle.std.proofs.lemmas.List.{length-map, append-nil}
+use Rattle.std.proofs.Common.{◌≡◌, ℕ, zero, suc, ◌-◌, ◌<◌, true, false, List, [], ◌∷◌, ◌++◌, Ok, Err, refl, sym, ap, subst, ◌∙◌, append_assoc, arith}
+use Rattle.std.proofs.lemmas.List.{append-nil}
 use Rattle.dactl_meaning.specs.declared.tree.Name.{Name}
-use Rattle.fun_syntax.specs.declared.token.Sort.TheVariants as s
-use Rattle.fun_syntax.specs.declared.token.Terminal.{Terminal}
-use Rattle.fun_syntax.specs.Sort.{same_sort, starts_expr}
+use Rattle.dactl_terminals.specs.declared.token.Sort.TheVariants as s
+use Rattle.dactl_terminals.specs.Sort.{same_sort}
+use Rattle.fun_syntax.specs.Sort.{starts_expr}
 use Rattle.dactl_grammar.specs.declared.fault.ReadError.{ReadError}
 use Rattle.dactl_grammar.specs.declared.fault.ReadError.TheVariants as errors
 use Rattle.dactl_grammar.specs.Giving.{Fails}
 use Rattle.dactl_grammar.specs.Reader.{Outcome, ◌>>=◌, head_is, read_many}
-use Rattle.fun_syntax.specs.Productions.{Tok, upper, joined}
-use Rattle.fun_syntax.specs.Reading.{Reads, by, read_behind, read_before, expr_at, args_at, equation_at, comma_upper_at, data_at, constructors_at}
-use Rattle.fun_syntax.specs.Seen.{seen, toks}
-use Rattle.fun_syntax.proofs.Fits.{shrinks}
-use Rattle.fun_syntax.proofs.Parts.{fit_expr_at, solid_expr_at, fit_equation, solid_equation, fit_comma_upper, solid_behind, fit_data, solid_data}
+use Rattle.dactl_terminals.specs.Parts.{Tok}
+use Rattle.fun_syntax.specs.Productions.{joined}
+use Rattle.dactl_terminals.specs.Reads.{by, read_behind, read_before}
+use Rattle.fun_syntax.specs.Reading.{expr_at, args_at, equation_at, data_at, constructors_at}
+use Rattle.dactl_terminals.proofs.Fits.{shrinks}
+use Rattle.fun_syntax.proofs.Parts.{fit_expr_at, solid_expr_at, fit_equation, solid_equation, fit_data, solid_data}
 use Rattle.dactl_grammar.proofs.Loop.{Shrinks, with_front, goes_on, ends, is_done}
 
 pub expr_shrinks : (n : ℕ) → Shrinks (expr_at n)
@@ -22,19 +23,8 @@ expr_shrinks n = shrinks (fit_expr_at n) (solid_expr_at n)
 pub equation_shrinks : (n : ℕ) → Shrinks (equation_at n)
 equation_shrinks n = shrinks (fit_equation n) (solid_equation n)
 
-pub comma_shrinks : Shrinks comma_upper_at
-comma_shrinks = shrinks fit_comma_upper (solid_behind s.Comma upper)
-
 pub data_shrinks : Shrinks data_at
 data_shrinks = shrinks fit_data solid_data
-
--- what is left behind a part is less
-pub less_left : {A : Type 0} (R : Reads A) → Shrinks R → (text : List ℕ) (l r : List Terminal) (a : A) → R (toks text l) ≡ Ok (a, toks text r) → length r < length l
-less_left R h text l r a e =
-    let lt = h (toks text l) a (toks text r) e in
-    let len_l = length-map l (seen text) in
-    let len_r = length-map r (seen text) in
-    omega arith
 
 -- brackets may still be opened
 pub args_step : (n : ℕ) → 0 < n → (l : List Tok) → args_at n l ≡ read_behind s.Open (read_before (read_many (by starts_expr) (expr_at (n - 1))) s.Close) l

@@ -1,59 +1,14 @@
 -- The grammar of equations, one definition for each of its productions.
-use Rattle.std.specs.Prelude.{ℕ, zero, suc, ℤ, pos, Bool, false, List, [], ◌∷◌, Option, unwrap_or, if◌then◌else◌}
+use Rattle.std.specs.Prelude.{ℕ, zero, suc, false, List, [], Option, unwrap_or}
 use Rattle.std.specs.List.{flat_map}
-use Rattle.dactl_base.specs.declared.refusal.Place.{Place}
-use Rattle.dactl_tokens.specs.Spelling.{is_too_wide, value_of}
 use Rattle.dactl_meaning.specs.declared.tree.Name.{Name}
-use Rattle.dactl_grammar.specs.Grammar.{Grammar, one, row, choice, maybe, many, means, barred}
+use Rattle.dactl_grammar.specs.Grammar.{choice, maybe, many, means, barred}
 use Rattle.fun_meaning.specs.declared.tree.Expr.{Expr}
 use Rattle.fun_meaning.specs.declared.tree.Expr.TheVariants as x
 use Rattle.fun_meaning.specs.declared.tree.Equation.{Equation}
 use Rattle.fun_meaning.specs.declared.tree.Fun.{Fun}
-use Rattle.fun_syntax.specs.declared.token.Sort.{Sort}
-use Rattle.fun_syntax.specs.declared.token.Sort.TheVariants as s
-use Rattle.fun_syntax.specs.Sort.{same_sort}
-
--- a token, its spelling and its place
-pub record Tok : Type 0 where
-  pub sort : Sort
-  pub word : List ℕ
-  pub place : ℕ
-
-abbrev pub Part_of : Type 0 → Type 1
-Part_of A = Grammar Tok A
-
-abbrev pub is : Sort → Tok → Bool
-is k t = same_sort k t.sort
-
-abbrev pub sign : Sort → Part_of Tok
-sign k = one (is k)
-
--- a part behind a token, and before one
-abbrev pub behind : {A : Type 0} → Sort → Part_of A → Part_of A
-behind k P = means (λ v. v.1) (row (sign k) (λ _. P))
-
-abbrev pub before : {A : Type 0} → Part_of A → Sort → Part_of A
-before P k = means (λ v. v.0) (row P (λ _. sign k))
-
--- a part, and then another that doesn't depend on it
-abbrev pub pair : {A B : Type 0} → Part_of A → Part_of B → Part_of (A × B)
-pair P Q = row P (λ _. Q)
-
-abbrev pub separated : {A : Type 0} → Sort → Part_of A → Part_of (List A)
-separated k P = means (λ v. v.0 ∷ v.1) (pair P (many (behind k P)))
-
--- where a token stands
-abbrev pub here : Tok → Place
-here t = record { byte = t.place }
-
-abbrev pub name_of : Tok → Name
-name_of t = record { text = t.word; place = here t }
-
-abbrev pub upper : Part_of Name
-upper = means name_of (sign s.Upper)
-
-abbrev pub lower : Part_of Name
-lower = means name_of (sign s.Lower)
+use Rattle.dactl_terminals.specs.declared.token.Sort.TheVariants as s
+use Rattle.dactl_terminals.specs.Parts.{Tok, Part_of, sign, behind, before, pair, separated, upper, lower, value_at}
 
 -- ---- expressions and patterns, which are written alike
 
@@ -68,12 +23,8 @@ given args = means given_of (maybe args)
 abbrev pub variable_of : Name → Expr
 variable_of n = x.Variable n
 
--- the value of an integer's bytes, which fit 64 bits
-abbrev pub value_at : List ℕ → ℤ
-value_at w = if is_too_wide false w then pos 0 else value_of w
-
 abbrev pub integer_of : Tok → Expr
-integer_of t = x.Integer (value_at t.word)
+integer_of t = x.Integer (value_at false t.word)
 
 abbrev pub made_of : Name × List Expr → Expr
 made_of v = x.Made v.0 v.1

@@ -1,51 +1,17 @@
 //! Constructors, equations and what is asked for.
 
-ghost use Rattle.std.specs.Prelude.{◌≡◌};
 ghost use Rattle.fun_syntax.specs.Reading as spec;
 ghost use Rattle.dactl_grammar.specs.Giving.{Gives};
-ghost use Rattle.fun_syntax.specs.Seen.{toks};
+ghost use Rattle.dactl_terminals.specs.Seen.{toks};
 
-use crate::expressions::{expr, given, upper};
-use crate::token::{Sort, Terminal, next_is, one};
+use crate::expressions::{expr, given};
 use dactl_grammar::fault::ReadError;
 use dactl_meaning::tree::Name;
+use dactl_terminals::names::{names, upper};
+use dactl_terminals::token::{Sort, Terminal, next_is, one};
 use fun_meaning::tree::{Equation, Expr};
 use sqlite_items::Items;
 use std::alloc::Global;
-
-#[tactic(auto, unfolding(crate::specs::Reading::comma_upper_at))]
-fn comma_upper<'a>(
-    alloc: Global,
-    text: &[u8],
-    tokens: &'a [Terminal],
-) -> Result<(Name, &'a [Terminal]), ReadError>
-    ensures { Gives (λ x. (x.0, toks text.now x.1.now)) result
-        (spec.comma_upper_at (toks text.now tokens.now)) }
-{
-    let (_, rest) = one(text, tokens, Sort::Comma)?;
-    upper(alloc, text, rest)
-}
-
-#[tactic(auto, unfolding(crate::specs::Reading::names_at))]
-fn names<'a>(
-    alloc: Global,
-    text: &[u8],
-    tokens: &'a [Terminal],
-) -> Result<(Items<Name>, &'a [Terminal]), ReadError>
-    ensures { Gives (λ x. (x.0, toks text.now x.1.now)) result
-        (spec.names_at (toks text.now tokens.now)) }
-{
-    let (first, after) = upper(alloc, text, tokens)?;
-    let mut found = Items::new(alloc);
-    found.push(first)?;
-    let mut rest = after;
-    'more: while next_is(rest, Sort::Comma) {
-        let (item, after) = comma_upper(alloc, text, rest)?;
-        found.push(item)?;
-        rest = after;
-    }
-    Ok((found, rest))
-}
 
 #[tactic(auto, unfolding(crate::specs::Reading::data_at))]
 fn data<'a>(

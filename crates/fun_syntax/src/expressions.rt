@@ -1,49 +1,26 @@
 //! Expressions and patterns, which are written alike.
 
-ghost use Rattle.std.specs.Prelude.{◌≡◌, ℕ, List};
+ghost use Rattle.std.specs.Prelude.{◌≡◌, ℕ, List, false};
 ghost use Rattle.fun_syntax.specs.Sort.{starts_expr};
 ghost use Rattle.dactl_grammar.specs.Reader.{head_is, read_many};
-ghost use Rattle.fun_syntax.specs.Reading.{by, upper_at, lower_at, args_at, given_at, expr_at};
+ghost use Rattle.dactl_terminals.specs.Reads.{by};
+ghost use Rattle.fun_syntax.specs.Reading.{args_at, given_at, expr_at};
 ghost use Rattle.dactl_grammar.specs.Giving.{Gives};
-ghost use Rattle.fun_syntax.specs.Seen.{toks};
+ghost use Rattle.dactl_terminals.specs.Parts.{value_at};
+ghost use Rattle.dactl_terminals.specs.Seen.{word_of, toks};
 
-use crate::token::{Sort, Terminal, name_at, next_is, one, value};
 use dactl_grammar::fault::{Fault, ReadError};
-use dactl_meaning::tree::Name;
+use dactl_terminals::names::{lower, upper};
+use dactl_terminals::token::{Sort, Terminal, next_is, one, value};
 use fun_meaning::tree::Expr;
 use sqlite_items::Items;
 use std::alloc::Global;
 
-/// Reads a name that begins with `A` to `Z`.
-///
-/// # Errors
-///
-/// `Fault` where another token comes next, as `one` has it, and `Memory` where memory for the name
-/// is wanting.
-#[tactic(auto, unfolding(crate::specs::Reading::upper_at))]
-pub fn upper<'a>(
-    alloc: Global,
-    text: &[u8],
-    tokens: &'a [Terminal],
-) -> Result<(Name, &'a [Terminal]), ReadError>
-    ensures { Gives (λ x. (x.0, toks text.now x.1.now)) result
-        (upper_at (toks text.now tokens.now)) }
+/// The value of an integer, which is 0 where it doesn't fit 64 bits.
+fn number(text: &[u8], token: Terminal) -> i64
+    ensures { result ≡ value_at false (word_of text.now token) }
 {
-    let (token, rest) = one(text, tokens, Sort::Upper)?;
-    Ok((name_at(alloc, text, token)?, rest))
-}
-
-#[tactic(auto, unfolding(crate::specs::Reading::lower_at))]
-fn lower<'a>(
-    alloc: Global,
-    text: &[u8],
-    tokens: &'a [Terminal],
-) -> Result<(Name, &'a [Terminal]), ReadError>
-    ensures { Gives (λ x. (x.0, toks text.now x.1.now)) result
-        (lower_at (toks text.now tokens.now)) }
-{
-    let (token, rest) = one(text, tokens, Sort::Lower)?;
-    Ok((name_at(alloc, text, token)?, rest))
+    value(false, text, token) as i64
 }
 
 fn starts_expr(tokens: &[Terminal]) -> bool
@@ -142,7 +119,7 @@ pub fn expr<'a>(
     }
     if next_is(tokens, Sort::Integer) {
         let (token, rest) = one(text, tokens, Sort::Integer)?;
-        let value = value(text, token);
+        let value = number(text, token);
         return Ok((Expr::Integer { value }, rest));
     }
     let (name, rest) = upper(alloc, text, tokens)?;

@@ -8,11 +8,9 @@ mod least;
 mod pieces;
 mod read;
 mod roles;
-mod terminals;
 #[cfg(test)]
 mod tests;
 mod text;
-mod token;
 mod variables;
 mod words;
 

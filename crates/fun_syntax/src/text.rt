@@ -1,21 +1,23 @@
 //! Whole texts.
 
-ghost use Rattle.std.specs.Prelude.{◌≡◌, ◌-◌, ◌≤◌, List, drop, length, Err, IfOk};
+ghost use Rattle.std.specs.Prelude.{◌≡◌, ◌-◌, ◌≤◌, length, Err, IfOk};
 ghost use Rattle.dactl_base.specs.declared.refusal.Refusal.{Refusal as The_refusal};
 ghost use Rattle.dactl_base.specs.declared.refusal.TextFault.TheVariants.{Refused};
 ghost use Rattle.dactl_grammar.specs.Reader.{read_all};
 ghost use Rattle.dactl_grammar.specs.Giving.{Gives};
 ghost use Rattle.dactl_tokens.specs.Answer.{OkOrMemory, RefusedOrMemory};
 ghost use Rattle.fun_meaning.specs.declared.tree.Fun.{Fun as The_fun};
-ghost use Rattle.fun_syntax.specs.Reading.{fun_at, refusal_of};
-ghost use Rattle.fun_syntax.specs.Seen.{toks};
-ghost use Rattle.fun_syntax.specs.Answer.{AreEquations, IsFirstFault, most_open, next_place};
+ghost use Rattle.dactl_terminals.specs.Answer.{refusal_of};
+ghost use Rattle.fun_syntax.specs.Reading.{fun_at};
+ghost use Rattle.dactl_terminals.specs.Seen.{toks};
+ghost use Rattle.fun_syntax.specs.Answer.{AreEquations, IsFirstFault, most_open};
 
 use crate::equations::{asked, constructors, equations};
-use crate::terminals::terminals;
-use crate::token::{Terminal, place_of};
-use dactl_base::refusal::{Kind, Place, Refusal, TextFault};
+use dactl_base::refusal::TextFault;
 use dactl_grammar::fault::{Fault, ReadError};
+use dactl_terminals::faults::refusal_of;
+use dactl_terminals::terminals::terminals;
+use dactl_terminals::token::Terminal;
 use dactl_tokens::Token;
 use fun_meaning::tree::Fun;
 use std::alloc::Global;
@@ -41,37 +43,6 @@ fn whole(alloc: Global, text: &[u8], tokens: &[Terminal]) -> Result<Fun, ReadErr
     })
 }
 
-/// Where the token stands that has so many tokens from it on: the end of the text where there are
-/// none.
-fn place_from(text: &[u8], tokens: &[Terminal], left: usize) -> Place
-    requires { length text.now ≤ 1048576 }
-    ensures { result.byte ≡ next_place (length text.now)
-        (drop (length tokens.now - left) (toks text.now tokens.now)) }
-{
-    match tokens.get(tokens.len().saturating_sub(left)) {
-        Some(token) => place_of(*token),
-        None => Place {
-            byte: text.len() as u32,
-        },
-    }
-}
-
-fn refusal_of(text: &[u8], tokens: &[Terminal], fault: Fault) -> Refusal
-    requires { length text.now ≤ 1048576 }
-    ensures { result ≡ refusal_of (length text.now) (toks text.now tokens.now) fault }
-{
-    match fault {
-        Fault::Unexpected { left } => Refusal {
-            kind: Kind::Unexpected,
-            place: place_from(text, tokens, left),
-        },
-        Fault::TooDeep { left } => Refusal {
-            kind: Kind::TooDeep,
-            place: place_from(text, tokens, left),
-        },
-    }
-}
-
 /// The equations of a text, which is given with its tokens.
 ///
 /// # Errors
@@ -90,7 +61,7 @@ pub fn parse(alloc: Global, text: &[u8], tokens: &[Token]) -> Result<Fun, TextFa
     ensures only_refused { (r : The_refusal) → IsFirstFault text.now tokens.now r →
         RefusedOrMemory r result }
 {
-    let terminals = terminals(alloc, text, tokens)?;
+    let terminals = terminals(alloc, true, text, tokens)?;
     match whole(alloc, text, terminals.as_slice()) {
         Ok(found) => Ok(found),
         Err(ReadError::Memory) => Err(TextFault::Memory),

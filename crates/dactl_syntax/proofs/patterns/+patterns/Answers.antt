@@ -2,10 +2,11 @@ use Rattle.std.proofs.Common.{rules, sym, ◌∙◌, arith}
 use Rattle.std.proofs.lemmas.Grind.{common_steps}
 use Rattle.std.proofs.lemmas.Result.{err_from_is_err_and}
 use Rattle.dactl_syntax.specs.Sort.{starts_piece, is_sign}
-use Rattle.dactl_syntax.specs.Reading.{by, piece_reads, link_at, pieces_at, links_at}
-use Rattle.dactl_syntax.specs.Seen.{toks}
+use Rattle.dactl_terminals.specs.Reads.{by}
+use Rattle.dactl_syntax.specs.Reading.{piece_reads, link_at, pieces_at, links_at}
+use Rattle.dactl_terminals.specs.Seen.{toks}
 use Rattle.dactl_grammar.proofs.Loop.{goes_on, ends, is_done}
-use Rattle.dactl_syntax.proofs.Steps.{less_left}
+use Rattle.dactl_terminals.proofs.Steps.{less_left}
 use Rattle.dactl_syntax.proofs.PatternSteps.{piece_shrinks, link_shrinks, squares_step, rounds_step}
 use Rattle.dactl_syntax.proofs.patterns.+patterns.Goals as goal
 

@@ -1,13 +1,13 @@
 use Rattle.std.proofs.Common.{sym, ◌∙◌}
 use Rattle.std.proofs.lemmas.Result.{err_from_is_err_and}
 use Rattle.dactl_syntax.specs.Sort.{starts_piece}
-use Rattle.dactl_syntax.specs.Reading.{by, group_at, groups_at}
-use Rattle.dactl_syntax.specs.Seen.{toks}
+use Rattle.dactl_terminals.specs.Reads.{by}
+use Rattle.dactl_syntax.specs.Reading.{group_at, groups_at}
+use Rattle.dactl_terminals.specs.Seen.{toks}
 use Rattle.dactl_grammar.proofs.Loop.{goes_on, ends, is_done}
-use Rattle.dactl_syntax.proofs.Fits.{shrinks}
-use Rattle.dactl_syntax.proofs.Steps.{less_left}
-use Rattle.dactl_syntax.proofs.RuleLaws.{fit_group}
-use Rattle.dactl_syntax.proofs.RuleLaws.{solid_group}
+use Rattle.dactl_terminals.proofs.Fits.{shrinks}
+use Rattle.dactl_terminals.proofs.Steps.{less_left}
+use Rattle.dactl_syntax.proofs.RuleLaws.{fit_group, solid_group}
 use Rattle.dactl_syntax.proofs.rules.groups.Goals as goal
 
 pub returns-in_err-item : goal.returns-in_err-item

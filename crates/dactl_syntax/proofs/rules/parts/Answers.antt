@@ -1,14 +1,14 @@
 use Rattle.std.proofs.Common.{sym, ◌∙◌}
 use Rattle.std.proofs.lemmas.Result.{err_from_is_err_and}
-use Rattle.dactl_syntax.specs.declared.token.Sort.TheVariants as s
-use Rattle.dactl_syntax.specs.Sort.{same_sort}
-use Rattle.dactl_syntax.specs.Reading.{by, comma_part_at, parts_at}
-use Rattle.dactl_syntax.specs.Seen.{toks}
+use Rattle.dactl_terminals.specs.declared.token.Sort.TheVariants as s
+use Rattle.dactl_terminals.specs.Sort.{same_sort}
+use Rattle.dactl_terminals.specs.Reads.{by}
+use Rattle.dactl_syntax.specs.Reading.{comma_part_at, parts_at}
+use Rattle.dactl_terminals.specs.Seen.{toks}
 use Rattle.dactl_grammar.proofs.Loop.{goes_on, ends, is_done}
-use Rattle.dactl_syntax.proofs.Fits.{shrinks}
-use Rattle.dactl_syntax.proofs.Steps.{less_left}
-use Rattle.dactl_syntax.proofs.RuleLaws.{fit_comma_part}
-use Rattle.dactl_syntax.proofs.RuleLaws.{solid_comma_part}
+use Rattle.dactl_terminals.proofs.Fits.{shrinks}
+use Rattle.dactl_terminals.proofs.Steps.{less_left}
+use Rattle.dactl_syntax.proofs.RuleLaws.{fit_comma_part, solid_comma_part}
 use Rattle.dactl_syntax.proofs.rules.parts.Goals as goal
 
 pub returns-in_err-item : goal.returns-in_err-item

@@ -3,10 +3,12 @@ use Rattle.std.proofs.lemmas.Grind.{common_steps}
 use Rattle.std.proofs.lemmas.Result.{err_from_is_err_and}
 use Rattle.dactl_syntax.specs.Sort.{starts_arg}
 use Rattle.dactl_grammar.specs.Reader.{read_many}
-use Rattle.dactl_syntax.specs.Reading.{by, arg_at}
-use Rattle.dactl_syntax.specs.Seen.{toks}
+use Rattle.dactl_terminals.specs.Reads.{by}
+use Rattle.dactl_syntax.specs.Reading.{arg_at}
+use Rattle.dactl_terminals.specs.Seen.{toks}
 use Rattle.dactl_grammar.proofs.Loop.{goes_on, ends, is_done}
-use Rattle.dactl_syntax.proofs.Steps.{arg_shrinks, less_left, args_step}
+use Rattle.dactl_terminals.proofs.Steps.{less_left}
+use Rattle.dactl_syntax.proofs.Steps.{arg_shrinks, args_step}
 use Rattle.dactl_syntax.proofs.terms.+terms.Goals as goal
 
 pub arg_list-returns-in_err-arg : goal.arg_list-returns-in_err-arg

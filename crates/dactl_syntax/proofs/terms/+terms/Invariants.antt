@@ -1,8 +1,9 @@
 use Rattle.std.proofs.Common.{◌≡◌, ◌+◌, ◌*◌, length}
 use Rattle.dactl_syntax.specs.Sort.{starts_arg}
 use Rattle.dactl_grammar.specs.Reader.{read_many}
-use Rattle.dactl_syntax.specs.Reading.{by, arg_at}
-use Rattle.dactl_syntax.specs.Seen.{toks}
+use Rattle.dactl_terminals.specs.Reads.{by}
+use Rattle.dactl_syntax.specs.Reading.{arg_at}
+use Rattle.dactl_terminals.specs.Seen.{toks}
 use Rattle.dactl_grammar.proofs.Loop.{with_front}
 use Rattle.dactl_syntax.proofs.terms.+terms.Given as goal
 

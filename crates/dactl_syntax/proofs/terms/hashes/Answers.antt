@@ -1,9 +1,10 @@
 use Rattle.std.proofs.Common.{◌≡◌, ◌-◌, ℕ, [], ◌∷◌, ◌++◌, length, Ok, sym, ap, ◌∙◌, arith, length-append}
-use Rattle.dactl_syntax.specs.declared.token.Sort.TheVariants.{Hash}
-use Rattle.dactl_syntax.specs.Sort.{same_sort}
+use Rattle.dactl_terminals.specs.declared.token.Sort.TheVariants.{Hash}
+use Rattle.dactl_terminals.specs.Sort.{same_sort}
 use Rattle.dactl_grammar.specs.Reader.{read_many}
-use Rattle.dactl_syntax.specs.Reading.{by, read_sign, hashes_at}
-use Rattle.dactl_syntax.specs.Seen.{toks, seen}
+use Rattle.dactl_terminals.specs.Reads.{by, read_sign}
+use Rattle.dactl_syntax.specs.Reading.{hashes_at}
+use Rattle.dactl_terminals.specs.Seen.{toks, seen}
 use Rattle.dactl_grammar.proofs.Loop.{goes_on, is_done, read_ok}
 use Rattle.dactl_syntax.proofs.Steps.{hash_shrinks, one_left}
 use Rattle.dactl_syntax.proofs.terms.hashes.Goals as goal

@@ -1,10 +1,10 @@
 use Rattle.std.proofs.Common.{◌≡◌, List, ◌+◌, length}
-use Rattle.dactl_syntax.specs.declared.token.Sort.TheVariants.{Hash}
-use Rattle.dactl_syntax.specs.Sort.{same_sort}
-use Rattle.dactl_syntax.specs.Productions.{Tok}
+use Rattle.dactl_terminals.specs.declared.token.Sort.TheVariants.{Hash}
+use Rattle.dactl_terminals.specs.Sort.{same_sort}
+use Rattle.dactl_terminals.specs.Parts.{Tok}
 use Rattle.dactl_grammar.specs.Reader.{read_many}
-use Rattle.dactl_syntax.specs.Reading.{by, read_sign}
-use Rattle.dactl_syntax.specs.Seen.{toks}
+use Rattle.dactl_terminals.specs.Reads.{by, read_sign}
+use Rattle.dactl_terminals.specs.Seen.{toks}
 use Rattle.dactl_grammar.proofs.Loop.{with_front}
 use Rattle.dactl_syntax.proofs.terms.hashes.Given as goal
 

@@ -1,9 +1,8 @@
-use Rattle.std.proofs.Common.{◌≡◌, List, Ok, Err, sym, ap, subst, ◌∙◌}
-use Rattle.dactl_syntax.specs.Reading.{refusal_of}
-use Rattle.dactl_syntax.specs.Productions.{Tok}
-use Rattle.dactl_syntax.specs.Seen.{toks}
+use Rattle.std.proofs.Common.{◌≡◌, List, Ok, Err, sym, ap, subst, ◌∙◌, length}
+use Rattle.dactl_terminals.specs.Answer.{refusal_of}
+use Rattle.dactl_terminals.specs.Parts.{Tok}
+use Rattle.dactl_terminals.specs.Seen.{toks}
 use Rattle.dactl_syntax.specs.Answer.{IsFirstFault}
-use Rattle.std.proofs.Common.{length}
 use Rattle.dactl_syntax.proofs.Answered.{read_tree, read_only, never_both, no_tree, read_fault, one_fault, as_tokens}
 use Rattle.dactl_syntax.proofs.text.parse.Goals as goal
 

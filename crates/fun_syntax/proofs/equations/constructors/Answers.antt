@@ -1,8 +1,9 @@
 use Rattle.std.proofs.Common.{sym, ◌∙◌}
 use Rattle.std.proofs.lemmas.Result.{err_from_is_err_and}
 use Rattle.fun_syntax.specs.Reading.{data_at, constructors_at}
-use Rattle.fun_syntax.specs.Seen.{toks}
-use Rattle.fun_syntax.proofs.Steps.{data_shrinks, less_left, more_data, bad_data, no_data, from_none}
+use Rattle.dactl_terminals.specs.Seen.{toks}
+use Rattle.dactl_terminals.proofs.Steps.{less_left}
+use Rattle.fun_syntax.proofs.Steps.{data_shrinks, more_data, bad_data, no_data, from_none}
 use Rattle.fun_syntax.proofs.equations.constructors.Goals as goal
 
 pub more-init : goal.more-init

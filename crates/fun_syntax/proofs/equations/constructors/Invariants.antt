@@ -1,6 +1,6 @@
 use Rattle.std.proofs.Common.{◌≡◌, length}
 use Rattle.fun_syntax.specs.Reading.{constructors_at}
-use Rattle.fun_syntax.specs.Seen.{toks}
+use Rattle.dactl_terminals.specs.Seen.{toks}
 use Rattle.fun_syntax.proofs.Steps.{with_names}
 use Rattle.fun_syntax.proofs.equations.constructors.Given as goal
 

@@ -1,12 +1,14 @@
 use Rattle.std.proofs.Common.{sym, ◌∙◌}
 use Rattle.std.proofs.lemmas.Result.{err_from_is_err_and}
-use Rattle.fun_syntax.specs.declared.token.Sort.TheVariants as s
-use Rattle.fun_syntax.specs.Sort.{same_sort}
+use Rattle.dactl_terminals.specs.declared.token.Sort.TheVariants as s
+use Rattle.dactl_terminals.specs.Sort.{same_sort}
 use Rattle.dactl_grammar.specs.Reader.{read_many}
-use Rattle.fun_syntax.specs.Reading.{by, equation_at, equations_at}
-use Rattle.fun_syntax.specs.Seen.{toks}
+use Rattle.dactl_terminals.specs.Reads.{by}
+use Rattle.fun_syntax.specs.Reading.{equation_at, equations_at}
+use Rattle.dactl_terminals.specs.Seen.{toks}
 use Rattle.dactl_grammar.proofs.Loop.{goes_on, ends, is_done}
-use Rattle.fun_syntax.proofs.Steps.{equation_shrinks, less_left}
+use Rattle.dactl_terminals.proofs.Steps.{less_left}
+use Rattle.fun_syntax.proofs.Steps.{equation_shrinks}
 use Rattle.fun_syntax.proofs.equations.equations.Goals as goal
 
 pub returns-in_err-item : goal.returns-in_err-item

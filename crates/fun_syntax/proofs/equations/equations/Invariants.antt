@@ -1,9 +1,10 @@
 use Rattle.std.proofs.Common.{◌≡◌, length}
-use Rattle.fun_syntax.specs.declared.token.Sort.TheVariants as s
-use Rattle.fun_syntax.specs.Sort.{same_sort}
+use Rattle.dactl_terminals.specs.declared.token.Sort.TheVariants as s
+use Rattle.dactl_terminals.specs.Sort.{same_sort}
 use Rattle.dactl_grammar.specs.Reader.{read_many}
-use Rattle.fun_syntax.specs.Reading.{by, equation_at}
-use Rattle.fun_syntax.specs.Seen.{toks}
+use Rattle.dactl_terminals.specs.Reads.{by}
+use Rattle.fun_syntax.specs.Reading.{equation_at}
+use Rattle.dactl_terminals.specs.Seen.{toks}
 use Rattle.dactl_grammar.proofs.Loop.{with_front}
 use Rattle.fun_syntax.proofs.equations.equations.Given as goal
 

@@ -3,10 +3,12 @@ use Rattle.std.proofs.lemmas.Grind.{common_steps}
 use Rattle.std.proofs.lemmas.Result.{err_from_is_err_and}
 use Rattle.fun_syntax.specs.Sort.{starts_expr}
 use Rattle.dactl_grammar.specs.Reader.{read_many}
-use Rattle.fun_syntax.specs.Reading.{by, expr_at}
-use Rattle.fun_syntax.specs.Seen.{toks}
+use Rattle.dactl_terminals.specs.Reads.{by}
+use Rattle.fun_syntax.specs.Reading.{expr_at}
+use Rattle.dactl_terminals.specs.Seen.{toks}
 use Rattle.dactl_grammar.proofs.Loop.{goes_on, ends, is_done}
-use Rattle.fun_syntax.proofs.Steps.{expr_shrinks, less_left, args_step}
+use Rattle.dactl_terminals.proofs.Steps.{less_left}
+use Rattle.fun_syntax.proofs.Steps.{expr_shrinks, args_step}
 use Rattle.fun_syntax.proofs.expressions.+expressions.Goals as goal
 
 pub arg_list-returns-in_err-arg : goal.arg_list-returns-in_err-arg

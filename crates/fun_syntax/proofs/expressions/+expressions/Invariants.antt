@@ -1,8 +1,9 @@
 use Rattle.std.proofs.Common.{◌≡◌, ◌+◌, ◌*◌, length}
 use Rattle.fun_syntax.specs.Sort.{starts_expr}
 use Rattle.dactl_grammar.specs.Reader.{read_many}
-use Rattle.fun_syntax.specs.Reading.{by, expr_at}
-use Rattle.fun_syntax.specs.Seen.{toks}
+use Rattle.dactl_terminals.specs.Reads.{by}
+use Rattle.fun_syntax.specs.Reading.{expr_at}
+use Rattle.dactl_terminals.specs.Seen.{toks}
 use Rattle.dactl_grammar.proofs.Loop.{with_front}
 use Rattle.fun_syntax.proofs.expressions.+expressions.Given as goal
 

@@ -1,9 +1,8 @@
-use Rattle.std.proofs.Common.{◌≡◌, List, Ok, Err, sym, ap, subst, ◌∙◌}
-use Rattle.fun_syntax.specs.Reading.{refusal_of}
-use Rattle.fun_syntax.specs.Productions.{Tok}
-use Rattle.fun_syntax.specs.Seen.{toks}
+use Rattle.std.proofs.Common.{◌≡◌, List, Ok, Err, sym, ap, subst, ◌∙◌, length}
+use Rattle.dactl_terminals.specs.Answer.{refusal_of}
+use Rattle.dactl_terminals.specs.Parts.{Tok}
+use Rattle.dactl_terminals.specs.Seen.{toks}
 use Rattle.fun_syntax.specs.Answer.{IsFirstFault}
-use Rattle.std.proofs.Common.{length}
 use Rattle.fun_syntax.proofs.Answered.{read_found, read_only, never_both, none_found, read_fault, one_fault, as_tokens}
 use Rattle.fun_syntax.proofs.text.parse.Goals as goal
 
