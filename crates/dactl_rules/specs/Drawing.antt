@@ -8,7 +8,7 @@ use Rattle.dactl_meaning.specs.declared.tree.Name.{Name}
 use Rattle.dactl_meaning.specs.declared.tree.TermTree.{TermTree}
 use Rattle.dactl_meaning.specs.declared.tree.NodeTree.TheFolds.{fold-NodeTree, fold-ArgTree}
 use Rattle.dactl_meaning.specs.Contractum as contractum
-use Rattle.dactl_meaning.specs.Contractum.{DrawnArc, MentionTree, arg_draws, drawn_from, node_mentions, arg_mentions, term_mentions}
+use Rattle.dactl_meaning.specs.Contractum.{Drawn, DrawnArc, MentionTree, arg_draws, drawn_from, node_mentions, arg_mentions, term_mentions}
 use Rattle.dactl_rules.specs.declared.drawing.Target.{Target}
 use Rattle.dactl_rules.specs.declared.drawing.Target.TheVariants as target
 use Rattle.dactl_rules.specs.declared.drawing.Core.{Core}
