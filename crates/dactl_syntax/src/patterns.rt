@@ -193,14 +193,15 @@ fn pieces<'a>(
     ensures { Gives (λ x. (x.0, toks text.now x.1.now)) result
         (pieces_at room (toks text.now tokens.now)) }
 {
-    let mut found = Items::new(alloc);
+    let mut found = Vec::new(alloc);
     let mut rest = tokens;
     'more: while starts_piece(rest) {
         let (item, after) = piece(alloc, text, rest, room)?;
         found.push(item)?;
         rest = after;
     }
-    Ok((found, rest))
+    found.shrink_to_fit();
+    Ok((Items::from_vec(found), rest))
 }
 
 #[tactic(auto, unfolding(crate::specs::Reading::link_at))]

@@ -122,14 +122,16 @@ fn arg_list<'a>(
     ensures { Gives (λ x. (x.0, toks text.now x.1.now)) result
         (read_many (by starts_arg) (arg_at room) (toks text.now tokens.now)) }
 {
-    let mut args = Items::new(alloc);
+    let mut args = Vec::new(alloc);
     let mut rest = tokens;
     'more: while starts_arg(rest) {
         let (arg, after) = arg(alloc, text, rest, room)?;
         args.push(arg)?;
         rest = after;
     }
-    Ok((args, rest))
+    // Most nodes have one or two arguments, and most of a large text is such nodes.
+    args.shrink_to_fit();
+    Ok((Items::from_vec(args), rest))
 }
 
 /// Reads an argument of a node, with at most so many brackets open.

@@ -14,7 +14,7 @@ pub pieces-returns-in_err-item : goal.pieces-returns-in_err-item
 unfolding pieces_at
 pieces-returns-in_err-item t c =
     let p = err_from_is_err_and c.from_residual.result c.from_residual.ensures.1 in
-    rw (p.1, p.2) (ends (by starts_piece) (piece_reads c.args.room) (piece_shrinks c.args.room) c.in_err-item.field-0.0 c.more.found (toks c.args.text.now c.more.rest.now)
+    rw (p.1, p.2) (ends (by starts_piece) (piece_reads c.args.room) (piece_shrinks c.args.room) c.in_err-item.field-0.0 c.more.found.items (toks c.args.text.now c.more.rest.now)
     (pieces_at c.args.room (toks c.args.text.now c.args.tokens.now)) (sym (c.starts_piece.ensures c.args.text.now) ∙ c.more-test.true) c.in_err-item.ensures c.more.invariant)
 
 pub pieces-more-smaller : goal.pieces-more-smaller
@@ -23,14 +23,14 @@ pieces-more-smaller t c = less_left (piece_reads c.args.room) (piece_shrinks c.a
 pub pieces-more-preserved : goal.pieces-more-preserved
 unfolding pieces_at
 pieces-more-preserved t c =
-    rw c.in_ok-push.ensures.ok (goes_on (by starts_piece) (piece_reads c.args.room) (piece_shrinks c.args.room) c.more.found (toks c.args.text.now c.more.rest.now) c.in_ok-item.item (toks c.args.text.now c.in_ok-item.after.now)
+    rw c.in_ok-push.ensures.items (goes_on (by starts_piece) (piece_reads c.args.room) (piece_shrinks c.args.room) c.more.found.items (toks c.args.text.now c.more.rest.now) c.in_ok-item.item (toks c.args.text.now c.in_ok-item.after.now)
     (pieces_at c.args.room (toks c.args.text.now c.args.tokens.now)) (sym (c.starts_piece.ensures c.args.text.now) ∙ c.more-test.true) c.in_ok-item.ensures c.more.invariant)
 
 pub pieces-returns : goal.pieces-returns
 unfolding pieces_at
 pieces-returns t c =
-    is_done (by starts_piece) (piece_reads c.args.room) (piece_shrinks c.args.room) c.more.found (toks c.args.text.now c.more.rest.now)
-    (pieces_at c.args.room (toks c.args.text.now c.args.tokens.now)) (sym (c.starts_piece.ensures c.args.text.now) ∙ c.more-test.false) c.more.invariant
+    rw (c.from_vec.ensures, c.shrink_to_fit.ensures.items) (is_done (by starts_piece) (piece_reads c.args.room) (piece_shrinks c.args.room) c.more.found.items (toks c.args.text.now c.more.rest.now)
+    (pieces_at c.args.room (toks c.args.text.now c.args.tokens.now)) (sym (c.starts_piece.ensures c.args.text.now) ∙ c.more-test.false) c.more.invariant)
 
 pub links-returns-in_err-item : goal.links-returns-in_err-item
 unfolding links_at

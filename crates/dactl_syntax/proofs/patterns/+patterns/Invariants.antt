@@ -32,7 +32,7 @@ abbrev pub decreases-pattern : goal.decreases-pattern
 decreases-pattern l = 6 * l.room + 5
 
 abbrev pub invariant-pieces-more : goal.invariant-pieces-more
-invariant-pieces-more l = with_front l.found (read_many (by starts_piece) (piece_reads l.room) (toks l.text l.rest)) ≡ pieces_at l.room (toks l.text l.tokens)
+invariant-pieces-more l = with_front l.found.items (read_many (by starts_piece) (piece_reads l.room) (toks l.text l.rest)) ≡ pieces_at l.room (toks l.text l.tokens)
 
 abbrev pub decreases-pieces-more : goal.decreases-pieces-more
 decreases-pieces-more l = length l.rest

@@ -14,7 +14,7 @@ use Rattle.dactl_syntax.proofs.terms.+terms.Goals as goal
 pub arg_list-returns-in_err-arg : goal.arg_list-returns-in_err-arg
 arg_list-returns-in_err-arg t c =
     let p = err_from_is_err_and c.from_residual.result c.from_residual.ensures.1 in
-    rw (p.1, p.2) (ends (by starts_arg) (arg_at c.args.room) (arg_shrinks c.args.room) c.in_err-arg.field-0.0 c.more.args (toks c.args.text.now c.more.rest.now)
+    rw (p.1, p.2) (ends (by starts_arg) (arg_at c.args.room) (arg_shrinks c.args.room) c.in_err-arg.field-0.0 c.more.args.items (toks c.args.text.now c.more.rest.now)
     (read_many (by starts_arg) (arg_at c.args.room) (toks c.args.text.now c.args.tokens.now)) (sym (c.starts_arg.ensures c.args.text.now) ∙ c.more-test.true) c.in_err-arg.ensures c.more.invariant)
 
 pub arg_list-more-smaller : goal.arg_list-more-smaller
@@ -22,13 +22,13 @@ arg_list-more-smaller t c = less_left (arg_at c.args.room) (arg_shrinks c.args.r
 
 pub arg_list-more-preserved : goal.arg_list-more-preserved
 arg_list-more-preserved t c =
-    rw c.in_ok-push.ensures.ok (goes_on (by starts_arg) (arg_at c.args.room) (arg_shrinks c.args.room) c.more.args (toks c.args.text.now c.more.rest.now) c.in_ok-arg.arg (toks c.args.text.now c.in_ok-arg.after.now)
+    rw c.in_ok-push.ensures.items (goes_on (by starts_arg) (arg_at c.args.room) (arg_shrinks c.args.room) c.more.args.items (toks c.args.text.now c.more.rest.now) c.in_ok-arg.arg (toks c.args.text.now c.in_ok-arg.after.now)
     (read_many (by starts_arg) (arg_at c.args.room) (toks c.args.text.now c.args.tokens.now)) (sym (c.starts_arg.ensures c.args.text.now) ∙ c.more-test.true) c.in_ok-arg.ensures c.more.invariant)
 
 pub arg_list-returns : goal.arg_list-returns
 arg_list-returns t c =
-    is_done (by starts_arg) (arg_at c.args.room) (arg_shrinks c.args.room) c.more.args (toks c.args.text.now c.more.rest.now)
-    (read_many (by starts_arg) (arg_at c.args.room) (toks c.args.text.now c.args.tokens.now)) (sym (c.starts_arg.ensures c.args.text.now) ∙ c.more-test.false) c.more.invariant
+    rw (c.from_vec.ensures, c.shrink_to_fit.ensures.items) (is_done (by starts_arg) (arg_at c.args.room) (arg_shrinks c.args.room) c.more.args.items (toks c.args.text.now c.more.rest.now)
+    (read_many (by starts_arg) (arg_at c.args.room) (toks c.args.text.now c.args.tokens.now)) (sym (c.starts_arg.ensures c.args.text.now) ∙ c.more-test.false) c.more.invariant)
 
 pub args-returns-in_err-args : goal.args-returns-in_err-args
 args-returns-in_err-args t c =

@@ -26,7 +26,7 @@ abbrev pub decreases-arg_list : goal.decreases-arg_list
 decreases-arg_list l = 6 * l.room + 5
 
 abbrev pub invariant-arg_list-more : goal.invariant-arg_list-more
-invariant-arg_list-more l = with_front l.args (read_many (by starts_arg) (arg_at l.room) (toks l.text l.rest)) ≡ read_many (by starts_arg) (arg_at l.room) (toks l.text l.tokens)
+invariant-arg_list-more l = with_front l.args.items (read_many (by starts_arg) (arg_at l.room) (toks l.text l.rest)) ≡ read_many (by starts_arg) (arg_at l.room) (toks l.text l.tokens)
 
 abbrev pub decreases-arg_list-more : goal.decreases-arg_list-more
 decreases-arg_list-more l = length l.rest
