@@ -37,33 +37,90 @@ new_field field old new a place x inside written is n = elim (cases_eq n a) [
       ∙ sym (cond-false (eqb n a) x (field (get_or old n blank)) (ne_eqb n a there))
 ]
 
-pub rejoined : (old mid new : List Place) (before after : ℕ) (from to : Place) → before < length old → after < length old
-    → from ≡ get_or old before blank → mid ≡ set old before (record from { next = after })
-    → to ≡ get_or mid after blank → new ≡ set mid after (record to { previous = before }) → Rejoins old new before after
-rejoined old mid new before after from to before_in after_in read first read_again second =
+pub rejoined : (old mid new : List Place) (before after : ℕ) → before < length old → after < length old
+    → mid ≡ set old before (record (get_or old before blank) { next = after })
+    → new ≡ set mid after (record (get_or mid after blank) { previous = before }) → Rejoins old new before after
+rejoined old mid new before after before_in after_in first second =
+    let from = get_or old before blank in
+    let to = get_or mid after blank in
     let one : Place = record from { next = after } in
     let other : Place = record to { previous = before } in
     let first_long : length mid ≡ length old = ap length first ∙ length-set old before one in
     let inside : after < length mid = omega arith in
     record {
       long = ap length second ∙ length-set mid after other ∙ first_long;
-      next = λ n. kept_field (λ p. p.next) mid new after to other inside read_again second refl n ∙ new_field (λ p. p.next) old mid before one after before_in first refl n;
+      next = λ n. kept_field (λ p. p.next) mid new after to other inside refl second refl n ∙ new_field (λ p. p.next) old mid before one after before_in first refl n;
       previous = λ n.
           new_field (λ p. p.previous) mid new after other before inside second refl n
-          ∙ ap (cond (eqb n after) before) (kept_field (λ p. p.previous) old mid before from one before_in read first refl n);
+          ∙ ap (cond (eqb n after) before) (kept_field (λ p. p.previous) old mid before from one before_in refl first refl n);
       present = λ n.
-          kept_field (λ p. p.present) mid new after to other inside read_again second refl n
-          ∙ kept_field (λ p. p.present) old mid before from one before_in read first refl n;
+          kept_field (λ p. p.present) mid new after to other inside refl second refl n
+          ∙ kept_field (λ p. p.present) old mid before from one before_in refl first refl n;
     }
 
-pub remarked : (old new : List Place) (n : ℕ) (present : Bool) (at : Place) → n < length old → at ≡ get_or old n blank → new ≡ set old n (record at { present = present }) → Marks old new n present
-remarked old new n present at inside read written =
+pub remarked : (old new : List Place) (n : ℕ) (present : Bool) → n < length old → new ≡ set old n (record (get_or old n blank) { present = present }) → Marks old new n present
+remarked old new n present inside written =
+    let at = get_or old n blank in
     let place : Place = record at { present = present } in
     record {
       long = ap length written ∙ length-set old n place;
-      next = kept_field (λ p. p.next) old new n at place inside read written refl;
-      previous = kept_field (λ p. p.previous) old new n at place inside read written refl;
+      next = kept_field (λ p. p.next) old new n at place inside refl written refl;
+      previous = kept_field (λ p. p.previous) old new n at place inside refl written refl;
       marked = new_field (λ p. p.present) old new n place present inside written refl;
+    }
+
+-- n goes in between the back and the anchor, as by a link to it, a link behind it and its mark
+pub record GoesIn (old new : List Place) (back n anchor : ℕ) : Type 0 where
+  pub behind : List Place
+  pub linked : List Place
+  pub first : Rejoins old behind back n
+  pub second : Rejoins behind linked n anchor
+  pub marks : Marks linked new n true
+
+-- the same where the place of n is written whole
+pub goes_in : (old mid placed new : List Place) (back n anchor : ℕ) → back < length old → n < length old → anchor < length old
+    → mid ≡ set old back (record (get_or old back blank) { next = n })
+    → placed ≡ set mid n (record { next = anchor; previous = back; present = true })
+    → new ≡ set placed anchor (record (get_or placed anchor blank) { previous = n }) → GoesIn old new back n anchor
+goes_in old mid placed new back n anchor back_in n_in anchor_in one two three =
+    let at_back : Place = record (get_or old back blank) { next = n } in
+    let at_n : Place = record { next = anchor; previous = back; present = true } in
+    let from = get_or placed anchor blank in
+    let at_anchor : Place = record from { previous = n } in
+    let mid_long : length mid ≡ length old = ap length one ∙ length-set old back at_back in
+    let placed_long : length placed ≡ length old = ap length two ∙ length-set mid n at_n ∙ mid_long in
+    let n_mid : n < length mid = omega arith in
+    let anchor_placed : anchor < length placed = omega arith in
+    let behind = set mid n (record (get_or mid n blank) { previous = back }) in
+    let first = rejoined old mid behind back n back_in n_in one refl in
+    let half = set behind n (record (get_or behind n blank) { next = anchor }) in
+    let linked = set half anchor (record (get_or half anchor blank) { previous = n }) in
+    let n_behind : n < length behind = omega (arith, first.long) in
+    let anchor_behind : anchor < length behind = omega (arith, first.long) in
+    let second = rejoined behind half linked n anchor n_behind anchor_behind refl refl in
+    record {
+      behind = behind;
+      linked = linked;
+      first = first;
+      second = second;
+      marks = record {
+        long = ap length three ∙ length-set placed anchor at_anchor ∙ placed_long ∙ sym (second.long ∙ first.long);
+        next = λ m.
+            kept_field (λ p. p.next) placed new anchor from at_anchor anchor_placed refl three refl m
+            ∙ new_field (λ p. p.next) mid placed n at_n anchor n_mid two refl m
+            ∙ ap (cond (eqb m n) anchor) (new_field (λ p. p.next) old mid back at_back n back_in one refl m)
+            ∙ sym (second.next m ∙ ap (cond (eqb m n) anchor) (first.next m));
+        previous = λ m.
+            new_field (λ p. p.previous) placed new anchor at_anchor n anchor_placed three refl m
+            ∙ ap (cond (eqb m anchor) n) (new_field (λ p. p.previous) mid placed n at_n back n_mid two refl m
+            ∙ ap (cond (eqb m n) back) (kept_field (λ p. p.previous) old mid back (get_or old back blank) at_back back_in refl one refl m))
+            ∙ sym (second.previous m ∙ ap (cond (eqb m anchor) n) (first.previous m));
+        marked = λ m.
+            kept_field (λ p. p.present) placed new anchor from at_anchor anchor_placed refl three refl m
+            ∙ new_field (λ p. p.present) mid placed n at_n true n_mid two refl m
+            ∙ ap (cond (eqb m n) true) (kept_field (λ p. p.present) old mid back (get_or old back blank) at_back back_in refl one refl m
+            ∙ sym (second.present m ∙ first.present m));
+      };
     }
 
 -- the numbers linked after a are those that following reads
@@ -189,20 +246,20 @@ module _ (places : List Place) (room count : ℕ) (xs : List ℕ) (ring : IsRing
   apart_from_anchor = (lacks_anchor, ring.apart)
 
 module _ (places : List Place) (room count : ℕ) (xs : List ℕ) (n : ℕ) (ring : IsRing places room count xs) (in_room : n < room) where
-  pub IsRing-inserted : (mid joined new : List Place) → Rejoins places mid (previous_of places room) n → Rejoins mid joined n room → Marks joined new n true → has xs n ≡ false → IsRing new room (count + 1) (xs ++ n ∷ [])
-  IsRing-inserted mid joined new first second marks absent =
+  pub IsRing-inserted : (new : List Place) → GoesIn places new (previous_of places room) n room → has xs n ≡ false → IsRing new room (count + 1) (xs ++ n ∷ [])
+  IsRing-inserted new goes absent =
       let lacks = Lacks-from_has xs n absent in
       let anchored : Lacks (room ∷ xs) n = (λ same. omega arith, lacks) in
-      let links = Links-inserted places mid joined room xs room n first second (apart_from_anchor places room count xs ring) anchored (lacks_anchor places room count xs ring) (λ same. omega arith) ring.linked in
+      let links = Links-inserted places goes.behind goes.linked room xs room n goes.first goes.second (apart_from_anchor places room count xs ring) anchored (lacks_anchor places room count xs ring) (λ same. omega arith) ring.linked in
       let member : (m : ℕ) → has (xs ++ n ∷ []) m ≡ (has xs m || (eqb m n || false)) = λ m. list_any-append (eqb m) xs (n ∷ []) in
       record {
         places_fit = ring.places_fit;
-        long = marks.long ∙ second.long ∙ first.long ∙ ring.long;
+        long = goes.marks.long ∙ goes.second.long ∙ goes.first.long ∙ ring.long;
         counted = omega (arith, length_push xs n, ring.counted);
         below = λ m present. grind (arith, nat_tests, member m, ring.below m);
         apart = AreApart-push xs n ring.apart lacks;
-        linked = Links-marked joined new n true marks room (xs ++ n ∷ []) room links;
-        marked = λ m inside. grind (arith, nat_tests, member m, ring.marked m, marks.marked m, second.present m, first.present m);
+        linked = Links-marked goes.linked new n true goes.marks room (xs ++ n ∷ []) room links;
+        marked = λ m inside. grind (arith, nat_tests, member m, ring.marked m, goes.marks.marked m, goes.second.present m, goes.first.present m);
       }
 
   pub IsRing-removed : (joined new : List Place) → Rejoins places joined (previous_of places n) (next_of places n) → Marks joined new n false → has xs n ≡ true → IsRing new room (count - 1) (without xs n)
@@ -235,9 +292,16 @@ module _ (places : List Place) (room count : ℕ) (ring : IsRing places room cou
       subst (λ p. p.previous < length places) (sym read) (in_range (previous_of places room) (last_within places room (following places room count) room ring.linked))
 
   module _ (n : ℕ) (inside : n < room) where
-    pub inserted_fields : (mid joined new : List Place) (anchor : Place) → anchor ≡ get_or places room blank → Rejoins places mid anchor.previous n → Rejoins mid joined n room → Marks joined new n true → has (following places room count) n ≡ false → IsRing new room (count + 1) (following places room count ++ n ∷ [])
-    inserted_fields mid joined new anchor read first second marks absent =
-        IsRing-inserted places room count (following places room count) n ring inside mid joined new (subst (λ p. Rejoins places mid p.previous n) read first) second marks absent
+    pub inserted_fields : (mid placed new : List Place) (anchor : Place) → anchor ≡ get_or places room blank
+        → mid ≡ set places anchor.previous (record (get_or places anchor.previous blank) { next = n })
+        → placed ≡ set mid n (record { next = room; previous = anchor.previous; present = true })
+        → new ≡ set placed room (record (get_or placed room blank) { previous = n })
+        → has (following places room count) n ≡ false → IsRing new room (count + 1) (following places room count ++ n ∷ [])
+    inserted_fields mid placed new anchor read one two three absent =
+        let n_in : n < length places = omega (arith, ring.long) in
+        let anchor_in : room < length places = omega (arith, ring.long) in
+        let goes = goes_in places mid placed new anchor.previous n room (back_in_range anchor read) n_in anchor_in one two three in
+        IsRing-inserted places room count (following places room count) n ring inside new (subst (λ (p : Place). GoesIn places new p.previous n room) read goes) absent
 
     module _ (at : Place) (read : at ≡ get_or places n blank) (present : has (following places room count) n ≡ true) where
       pub removed_fields : (joined new : List Place) → Rejoins places joined at.previous at.next → Marks joined new n false → IsRing new room (count - 1) (without (following places room count) n)

@@ -1,6 +1,6 @@
 -- The places of a ring of which those in front are stored.
-use Rattle.std.proofs.Common.{◌≡◌, ℕ, ◌+◌, ◌-◌, ◌<◌, ◌≤◌, List, [], ◌∷◌, ◌++◌, length, get_or, set, replicate, refl, sym, ap, ◌∙◌, arith, append_assoc, length-append, length-set}
-use Rattle.std.proofs.lemmas.List.{get_or_append_left, get_or-append_right, get_or_at, get_or-replicate, length-replicate, length_push, replicate-append-replicate, set-append_left, set_at}
+use Rattle.std.proofs.Common.{◌≡◌, ◌≢◌, ℕ, ◌+◌, ◌-◌, ◌<◌, ◌≤◌, List, [], ◌∷◌, ◌++◌, length, get_or, set, replicate, refl, sym, ap, ◌∙◌, arith, append_assoc, length-append, length-set}
+use Rattle.std.proofs.lemmas.List.{get_or_append_left, get_or-append_right, get_or_at, get_or_default, get_or-replicate, length-replicate, length_push, replicate-append-replicate, set-append_left, set_at}
 use Rattle.dactl_active.specs.declared.places.Place.{Place}
 use Rattle.dactl_active.specs.Round.{blank, round, IsStored}
 
@@ -60,22 +60,36 @@ module _ (places : List Place) (n room : ℕ) (stored : List Place) (anchor : Pl
   pub at_most : n < length places → n ≤ room
   at_most inside = omega (arith, ap length view_is, length-round room stored anchor capacity is)
 
-  pub ready_already : n < length stored → IsReady places n room stored anchor capacity
-  ready_already inside = record { inside = inside; is = is; same = view_is }
-
-  pub ready_stored : (items : List Place) (taken : ℕ) → n < room → length stored ≤ n → items ≡ stored ++ replicate (n + 1 - length stored) blank → taken ≡ capacity → IsReady places n room items anchor taken
-  ready_stored items taken below behind written same_room =
+  pub ready_reached : (items : List Place) (taken : ℕ) → n < length places → n ≢ room → items ≡ stored ++ replicate (n + 1 - length stored) blank → taken ≡ capacity → IsReady places n room items anchor taken
+  ready_reached items taken in_range other written same_room =
+      let most = at_most in_range in
       let more = n + 1 - length stored in
+      let few : length stored + more ≤ room = omega (arith, is.few) in
       let count : length items ≡ length stored + more = ap length written ∙ length-append stored (replicate more blank) ∙ ap (λ k. length stored + k) (length-replicate more blank) in
       record {
         inside = omega arith;
         is = record { few = omega arith; taken = omega (arith, is.taken) };
-        same = ap (λ ps. round room ps anchor) written ∙ grown room stored anchor capacity is more (omega arith) ∙ view_is;
+        same = ap (λ ps. round room ps anchor) written ∙ grown room stored anchor capacity is more few ∙ view_is;
       }
 
-module _ (places : List Place) (n room : ℕ) (stored : List Place) (anchor : Place) (capacity : ℕ) (ready : IsReady places n room stored anchor capacity) (place : Place) where
-  pub IsStored-set : IsStored room (set stored n place) capacity
-  IsStored-set = record { few = omega (arith, length-set stored n place, ready.is.few); taken = ready.is.taken }
+  pub written_anchor : (place : Place) → room ≡ n → round room stored place ≡ set places n place
+  written_anchor place same =
+      set_anchor room stored anchor capacity is place
+      ∙ ap (λ k. set (round room stored anchor) k place) same ∙ ap (λ ps. set ps n place) view_is
 
-  pub set_ready : round room (set stored n place) anchor ≡ set places n place
-  set_ready = set_stored room stored anchor capacity ready.is n place ready.inside ∙ ap (λ ps. set ps n place) ready.same
+  pub read_anchor : room ≡ n → anchor ≡ get_or places n blank
+  read_anchor same =
+      sym (get_anchor room stored anchor capacity is)
+      ∙ ap (λ k. get_or (round room stored anchor) k blank) same ∙ ap (λ ps. get_or ps n blank) view_is
+
+module _ (places : List Place) (n room : ℕ) (stored : List Place) (anchor : Place) (capacity : ℕ) (ready : IsReady places n room stored anchor capacity) where
+  pub IsStored-set : (place : Place) → IsStored room (set stored n place) capacity
+  IsStored-set place = record { few = omega (arith, length-set stored n place, ready.is.few); taken = ready.is.taken }
+
+  pub set_ready : (place : Place) → round room (set stored n place) anchor ≡ set places n place
+  set_ready place = set_stored room stored anchor capacity ready.is n place ready.inside ∙ ap (λ ps. set ps n place) ready.same
+
+  pub read_ready : (place : Place) → place ≡ get_or stored n place → place ≡ get_or places n blank
+  read_ready place read =
+      read ∙ get_or_default stored n place blank ready.inside
+      ∙ sym (get_stored room stored anchor capacity ready.is n ready.inside) ∙ ap (λ ps. get_or ps n blank) ready.same

@@ -1,5 +1,5 @@
 -- How a ring links its numbers. No public clause cites this module.
-use Rattle.std.specs.Prelude.{◌≡◌, ◌≢◌, ℕ, zero, suc, ◌+◌, ◌<◌, ◌^◌, ◌==◌, Bool, true, false, List, [], ◌∷◌, length, slice_index_or, if◌then◌else◌}
+use Rattle.std.specs.Prelude.{◌≡◌, ◌≢◌, ℕ, zero, suc, ◌+◌, ◌<◌, ◌^◌, ◌==◌, Bool, true, List, [], ◌∷◌, length, slice_index_or, if◌then◌else◌}
 use Rattle.dactl_active.specs.declared.places.Place.{Place}
 use Rattle.dactl_active.specs.Ring.{has}
 use Rattle.dactl_active.specs.Round.{blank}

@@ -68,6 +68,19 @@ fn store(stored: &mut Vec<Place>, n: u32)
     }
 }
 
+// Stores the places up to that of n where they are not stored yet.
+#[inline(always)]
+fn reach(stored: &mut Vec<Place>, n: u32)
+    requires { n < vec_capacity stored.old }
+    ensures items { let old = stored.old.items in
+        stored.new.items ≡ old ++ replicate (n + 1 - length old) blank }
+    ensures capacity { vec_capacity stored.new ≡ vec_capacity stored.old }
+{
+    if stored.len() <= n as usize {
+        store(stored, n);
+    }
+}
+
 impl Places {
     /// The places of so many numbers, none of which is present, and the anchor's.
     ///
@@ -85,6 +98,7 @@ impl Places {
     }
 
     /// The place of a number, or of the anchor, which comes behind all numbers.
+    #[inline(always)]
     pub fn get(&self, n: u32) -> Place
         requires { n < length self.now }
         ensures { result ≡ slice_index_or self.now n blank }
@@ -101,6 +115,7 @@ impl Places {
 
     /// Changes the place of a number, or of the anchor. It takes constant time on average, since each place is
     /// stored only once.
+    #[inline(always)]
     pub fn set(&mut self, n: u32, place: Place)
         requires { n < length self.old }
         ensures { self.new ≡ slice_set self.old n place }
@@ -109,9 +124,52 @@ impl Places {
             self.anchor = place;
             return;
         }
-        if self.stored.len() <= n as usize {
-            store(&mut self.stored, n);
-        }
+        reach(&mut self.stored, n);
         self.stored[n as usize] = place;
+    }
+
+    /// Changes the number that follows, as `set` does, and writes no more than that.
+    #[inline(always)]
+    pub fn set_next(&mut self, n: u32, next: u32)
+        requires { n < length self.old }
+        ensures { self.new ≡ slice_set self.old n
+            (record (slice_index_or self.old n blank) { next = next }) }
+    {
+        if n == self.room {
+            self.anchor.next = next;
+            return;
+        }
+        reach(&mut self.stored, n);
+        self.stored[n as usize].next = next;
+    }
+
+    /// Changes the number that comes before, as `set` does, and writes no more than that.
+    #[inline(always)]
+    pub fn set_previous(&mut self, n: u32, previous: u32)
+        requires { n < length self.old }
+        ensures { self.new ≡ slice_set self.old n
+            (record (slice_index_or self.old n blank) { previous = previous }) }
+    {
+        if n == self.room {
+            self.anchor.previous = previous;
+            return;
+        }
+        reach(&mut self.stored, n);
+        self.stored[n as usize].previous = previous;
+    }
+
+    /// Says whether the number is present, as `set` does, and writes no more than that.
+    #[inline(always)]
+    pub fn set_present(&mut self, n: u32, present: bool)
+        requires { n < length self.old }
+        ensures { self.new ≡ slice_set self.old n
+            (record (slice_index_or self.old n blank) { present = present }) }
+    {
+        if n == self.room {
+            self.anchor.present = present;
+            return;
+        }
+        reach(&mut self.stored, n);
+        self.stored[n as usize].present = present;
     }
 }

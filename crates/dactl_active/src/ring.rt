@@ -42,36 +42,23 @@ impl Model for Ring {
 }
 
 // Makes `after` the one that follows `before`.
+#[inline(always)]
 fn join(places: &mut Places, before: u32, after: u32)
     requires before_in_range { before < length places.old }
     requires after_in_range { after < length places.old }
     ensures { Rejoins places.old places.new before after }
 {
-    let from = places.get(before);
-    places.set(
-        before,
-        Place {
-            next: after,
-            ..from
-        },
-    );
-    let to = places.get(after);
-    places.set(
-        after,
-        Place {
-            previous: before,
-            ..to
-        },
-    );
+    places.set_next(before, after);
+    places.set_previous(after, before);
 }
 
 // Says of n whether it is in the ring.
+#[inline(always)]
 fn mark(places: &mut Places, n: u32, present: bool)
     requires { n < length places.old }
     ensures { Marks places.old places.new n present }
 {
-    let at = places.get(n);
-    places.set(n, Place { present, ..at });
+    places.set_present(n, present);
 }
 
 impl Ring {
@@ -106,6 +93,7 @@ impl Ring {
     }
 
     /// Whether the number is in the ring.
+    #[inline]
     pub fn contains(&self, n: u32) -> bool
         requires { n < self.now.room }
         ensures { result ≡ has self.now.numbers n }
@@ -136,9 +124,14 @@ impl Ring {
         }
         let anchor = self.room;
         let back = self.places.get(anchor).previous;
-        join(&mut self.places, back, n);
-        join(&mut self.places, n, anchor);
-        mark(&mut self.places, n, true);
+        self.places.set_next(back, n);
+        let place = Place {
+            next: anchor,
+            previous: back,
+            present: true,
+        };
+        self.places.set(n, place);
+        self.places.set_previous(anchor, n);
         self.count += 1;
     }
 

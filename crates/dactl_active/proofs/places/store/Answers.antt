@@ -1,4 +1,4 @@
-use Rattle.std.proofs.Common.{◌≡◌, ◌+◌, ◌-◌, ◌≤◌, ◌++◌, ◌∷◌, [], length, replicate, vec_len, sym, ap, ◌∙◌, rules, arith, append_assoc, length-append}
+use Rattle.std.proofs.Common.{◌≡◌, ◌+◌, ◌-◌, ◌++◌, ◌∷◌, [], length, replicate, vec_len, ap, ◌∙◌, rules, arith, append_assoc, length-append}
 use Rattle.std.proofs.lemmas.List.{length-replicate, replicate_more}
 use Rattle.dactl_active.specs.Round.{blank}
 use Rattle.dactl_active.proofs.places.store.Goals as goal
