@@ -32,6 +32,7 @@ impl Model for Link {
 }
 
 // The link with this code.
+#[inline(always)]
 fn decoded(code: u32) -> Link
     ensures { result ≡ link_of code }
 {
@@ -40,6 +41,7 @@ fn decoded(code: u32) -> Link
 
 impl Link {
     /// A link to the arc.
+    #[inline(always)]
     pub fn to(arc: u32) -> Link
         requires { arc + 1 < 2 ^ 32 }
         ensures { result ≡ Some arc }
@@ -48,6 +50,7 @@ impl Link {
     }
 
     /// The arc to which the link leads, if there is one.
+    #[inline(always)]
     pub fn arc(self) -> Option<u32>
         ensures { result ≡ self }
     {
@@ -55,6 +58,7 @@ impl Link {
     }
 
     // The code of the link.
+    #[inline(always)]
     fn encoded(self) -> u32
         ensures { link_of result ≡ self }
     {
@@ -93,6 +97,7 @@ impl LinkTable {
     }
 
     /// The link at the place.
+    #[inline(always)]
     pub fn get(&self, place: u32) -> Link
         requires { place < length self.now }
         ensures { result ≡ slice_index_or self.now place None }
@@ -101,6 +106,7 @@ impl LinkTable {
     }
 
     /// Puts a link at the place.
+    #[inline(always)]
     pub fn set(&mut self, place: u32, link: Link)
         requires { place < length self.old }
         ensures { self.new ≡ slice_set self.old place link }

@@ -88,6 +88,7 @@ impl Lists {
     }
 
     /// The arc of this number.
+    #[inline(always)]
     pub fn arc(&self, arc: u32) -> ArcRecord
         requires { arc < length self.now.arcs }
         ensures found { slice_get self.now.arcs arc ≡ Some result }
@@ -97,6 +98,7 @@ impl Lists {
     }
 
     /// Adds the arc in front of the list of its target.
+    #[inline(always)]
     pub fn push(&mut self, arc: ArcRecord)
         requires room { length self.old.arcs < self.old.room }
         requires target { arc.target < slot_count self.old }
@@ -110,6 +112,7 @@ impl Lists {
     }
 
     /// The first arc of the slot's list.
+    #[inline(always)]
     pub fn first_into(&self, slot: u32) -> Option<u32>
         requires { slot < slot_count self.now }
         ensures first { result ≡ slice_get (list_of self.now slot) 0 }
@@ -121,6 +124,7 @@ impl Lists {
     }
 
     /// The arc after this one in its list.
+    #[inline(always)]
     pub fn next_into(&self, arc: u32) -> Option<u32>
         requires { arc < length self.now.arcs }
         ensures next { let walk = list_of self.now (target_of self.now.arcs arc) in
@@ -133,6 +137,7 @@ impl Lists {
     }
 
     /// Moves the first arc of a list in front of another.
+    #[inline(always)]
     pub fn move_first(&mut self, arc: u32, from: u32, to: u32)
         requires different { from ≢ to }
         requires from_in_range { from < slot_count self.old }

@@ -62,6 +62,7 @@ impl NamedLists {
     }
 
     /// The arc after this one in its list.
+    #[inline(always)]
     pub fn next_into(&self, arc: u32) -> Option<u32>
         requires { arc < length self.now.arcs }
         ensures next { let walk = list_of self.now (target_of self.now.arcs arc) in
@@ -86,6 +87,7 @@ impl NamedLists {
     }
 
     /// The arc of this number.
+    #[inline(always)]
     pub fn arc(&self, arc: u32) -> ArcRecord
         requires { arc < length self.now.arcs }
         ensures found { slice_get self.now.arcs arc ≡ Some result }
@@ -107,6 +109,7 @@ impl NamedLists {
     }
 
     /// The first arc of the slot's list.
+    #[inline(always)]
     pub fn first_into(&self, slot: u32) -> Option<u32>
         requires { slot < slot_count self.now }
         ensures first { result ≡ slice_get (list_of self.now slot) 0 }
@@ -129,6 +132,7 @@ impl NamedLists {
     }
 
     /// Adds the arc in front of the list of its target.
+    #[inline(always)]
     pub fn push(&mut self, arc: ArcRecord)
         requires room { length self.old.arcs < self.old.room }
         requires target { arc.target < slot_count self.old }
@@ -142,6 +146,7 @@ impl NamedLists {
     }
 
     /// Moves the first arc of a slot's list in front of another slot's.
+    #[inline(always)]
     pub fn move_first(&mut self, arc: u32, from: u32, to: u32)
         requires different { from ≢ to }
         requires from_in_range { from < slot_count self.old }

@@ -52,6 +52,7 @@ impl Model for ArcPool {
 }
 
 // Moves all arcs of a slot to another, which may be the same.
+#[inline(always)]
 fn move_slot(lists: &mut StampedLists, from: u32, to: u32)
     requires from_in_range { from < targets lists.old }
     requires to_in_range { to < targets lists.old }
@@ -186,6 +187,7 @@ impl ArcPool {
     }
 
     /// The arc of this number.
+    #[inline]
     pub fn arc(&self, arc: u32) -> ArcRecord
         requires { arc < length self.now.arcs }
         ensures { slice_get self.now.arcs arc ≡ Some result }
@@ -222,10 +224,10 @@ impl ArcPool {
     /// arc is sent twice, and of the pairs that begin with its target the first one counts. Each arc that
     /// has another target then changed last at this stamp.
     ///
-    /// Redirection merges lists, and of two lists only the arcs of the shorter one are touched. As no list
-    /// of an arc ever gets shorter, no arc is touched more than log2(arcs) times by all calls together.
-    /// (That is an argument; no clause speaks of time.) Each call also takes time for the square of the
-    /// number of pairs.
+    /// Redirection merges lists. It touches the arc of a list that has no other, and of two longer lists only the
+    /// arcs of the shorter one. As no list of an arc ever gets shorter, no arc is touched more than log2(arcs) times
+    /// by all calls together where it is not alone. (That is an argument; no clause speaks of time.) Each call also
+    /// takes time for the square of the number of pairs.
     pub fn redirect(&mut self, moves: &[(u32, u32)], stamp: u32)
         requires few { length moves.now ≤ MOST_MOVES }
         requires below { AreBelow (targets self.old) moves.now }
@@ -251,6 +253,7 @@ impl ArcPool {
     }
 
     /// The arc of this number, and its last change.
+    #[inline]
     pub fn arc_and_change(&self, arc: u32) -> (ArcRecord, u32)
         requires { arc < length self.now.arcs }
         ensures arc { slice_get self.now.arcs arc ≡ Some result.0 }

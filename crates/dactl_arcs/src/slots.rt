@@ -8,6 +8,7 @@ use crate::pool::MOST_MOVES;
 
 /// The slot for the arcs into a target, by their flag. The two slots of a target lie side by side, so that a pool of
 /// which few targets are used uses few slots, all in front.
+#[inline(always)]
 pub fn slot_for(target: u32, waits: bool) -> u32
     requires { slot_of target true < 2 ^ 32 }
     ensures { result ≡ slot_of target waits }
@@ -17,6 +18,7 @@ pub fn slot_for(target: u32, waits: bool) -> u32
 }
 
 /// The arc that names its slot, by its target.
+#[inline(always)]
 pub fn arc_seen(arc: ArcRecord) -> ArcRecord
     requires { IsHoused arc }
     ensures { result ≡ seen arc }

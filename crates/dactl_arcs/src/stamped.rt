@@ -59,6 +59,7 @@ impl Model for StampedLists {
 }
 
 // The last change of an arc whose list has this stamp.
+#[inline(always)]
 fn last_change(list: u32, arc: ArcStamp) -> u32
     ensures { result ≡ last_change list arc }
 {
@@ -102,6 +103,7 @@ impl StampedLists {
     }
 
     /// The arc of this number.
+    #[inline(always)]
     pub fn arc(&self, arc: u32) -> ArcRecord
         requires { arc < length self.now.arcs }
         ensures { slice_get self.now.arcs arc ≡ Some result }
@@ -110,6 +112,7 @@ impl StampedLists {
     }
 
     /// The arc after this one in its list.
+    #[inline(always)]
     pub fn next_into(&self, arc: u32) -> Option<u32>
         requires { arc < length self.now.arcs }
         ensures next { let walk = arcs_into self.now (target_of self.now.arcs arc) in
@@ -122,6 +125,7 @@ impl StampedLists {
     }
 
     /// Adds the arc in front of the list of its target. It has not changed yet.
+    #[inline(always)]
     pub fn push(&mut self, arc: ArcRecord)
         requires room { length self.old.arcs < self.old.room }
         requires target { arc.target < targets self.old }
@@ -148,6 +152,7 @@ impl StampedLists {
     }
 
     /// The arc of this number, and when it last changed its target.
+    #[inline(always)]
     pub fn arc_and_change(&self, arc: u32) -> (ArcRecord, u32)
         requires { arc < length self.now.arcs }
         ensures arc { slice_get self.now.arcs arc ≡ Some result.0 }
@@ -159,6 +164,7 @@ impl StampedLists {
     }
 
     /// The first arc of the slot's list.
+    #[inline(always)]
     pub fn first_into(&self, slot: u32) -> Option<u32>
         requires { slot < targets self.now }
         ensures first { result ≡ slice_get (arcs_into self.now slot) 0 }
@@ -170,6 +176,7 @@ impl StampedLists {
     }
 
     // Moves the first arc of a list in front of another.
+    #[inline(always)]
     fn move_first(&mut self, arc: u32, from: u32, to: u32)
         requires different { from ≢ to }
         requires from_in_range { from < targets self.old }
@@ -219,7 +226,52 @@ impl StampedLists {
         }
     }
 
+    // Moves the only arc of a slot to another.
+    #[inline(always)]
+    fn move_only(&mut self, arc: u32, from: u32, to: u32)
+        requires different { from ≢ to }
+        requires from_in_range { from < targets self.old }
+        requires to_in_range { to < targets self.old }
+        requires only { arcs_into self.old from ≡ arc ∷ [] }
+        ensures arcs { self.new.arcs ≡ map (retargeted ((from, to) ∷ [])) self.old.arcs }
+        ensures kept { IsKept self.old self.new }
+        ensures changed { self.new.changed ≡ self.old.changed }
+        ensures newest { self.new.newest ≡ self.old.newest }
+    {
+        let _ = self.len();
+        self.move_first(arc, from, to);
+        let _ = self.len();
+    }
+
+    // Moves all arcs of a slot, one at least, to another. Where there is only one it is not worth while to let
+    // the slots change their lists.
+    #[inline(never)]
+    fn merge_from(&mut self, first: u32, from: u32, to: u32)
+        requires different { from ≢ to }
+        requires from_in_range { from < targets self.old }
+        requires to_in_range { to < targets self.old }
+        requires first { IsIn (linked self.old) from first }
+        requires whole { let walk = arcs_into self.old from in
+            rest_of_walk (Some first) walk ≡ walk }
+        ensures arcs { self.new.arcs ≡ map (retargeted ((from, to) ∷ [])) self.old.arcs }
+        ensures kept { IsKept self.old self.new }
+        ensures changed { self.new.changed ≡ self.old.changed }
+        ensures newest { self.new.newest ≡ self.old.newest }
+    {
+        if self.next_into(first).is_none() {
+            self.move_only(first, from, to);
+            return;
+        }
+        if self.lists.is_at_most_as_long(from, to) {
+            self.move_all(from, to);
+            return;
+        }
+        self.move_all(to, from);
+        self.swap(from, to);
+    }
+
     /// Moves all arcs of a slot to another, in the time for the shorter of the two lists.
+    #[inline(always)]
     pub fn merge(&mut self, from: u32, to: u32)
         requires different { from ≢ to }
         requires from_in_range { from < targets self.old }
@@ -229,12 +281,9 @@ impl StampedLists {
         ensures changed { self.new.changed ≡ self.old.changed }
         ensures newest { self.new.newest ≡ self.old.newest }
     {
-        if self.lists.is_at_most_as_long(from, to) {
-            self.move_all(from, to);
-            return;
+        if let Some(first) = self.first_into(from) {
+            self.merge_from(first, from, to);
         }
-        self.move_all(to, from);
-        self.swap(from, to);
     }
 
     /// Gives the stamp to each arc whose target the pairs send elsewhere, in a time that doesn't depend on the

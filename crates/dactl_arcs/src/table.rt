@@ -36,6 +36,7 @@ impl Model for Table {
 }
 
 // The number that a table begins with at a place.
+#[inline(always)]
 fn initial(counts: bool, place: u32) -> u32
     ensures { result ≡ initial_at counts place }
 {
@@ -89,6 +90,7 @@ impl Table {
     }
 
     /// The number at the place, in constant time.
+    #[inline(always)]
     pub fn get(&self, place: u32) -> u32
         requires { place < length self.now }
         ensures { result ≡ slice_index self.now place }
@@ -101,6 +103,7 @@ impl Table {
 
     /// Puts a number at the place. It takes constant time on average: all calls together write each place up to the
     /// farthest one once more than they put numbers there.
+    #[inline(always)]
     pub fn set(&mut self, place: u32, number: u32)
         requires { place < length self.old }
         ensures { self.new ≡ slice_set self.old place number }

@@ -1,8 +1,9 @@
-use Rattle.std.proofs.Common.{map, ap, ◌∙◌}
-use Rattle.dactl_arcs.specs.Naming.{swapped}
-use Rattle.dactl_arcs.proofs.Moving.{swapped_back}
+use Rattle.std.proofs.Common.{sym, ◌∙◌}
+use Rattle.dactl_arcs.specs.Linked.{linked}
+use Rattle.dactl_arcs.proofs.Steps.{sent_all}
 use Rattle.dactl_arcs.proofs.stamped.StampedLists.merge.Goals as goal
 
-pub returns-clause-arcs : goal.returns-clause-arcs
-returns-clause-arcs c =
-    c.swap.ensures.arcs ∙ ap (map (swapped c.args.from c.args.to)) c.move_all-2.ensures.arcs ∙ swapped_back c.args.from c.args.to _ c.requires.different
+pub returns-in_default-clause-arcs : goal.returns-in_default-clause-arcs
+returns-in_default-clause-arcs c =
+    let walk = c.first_into.ensures.valid.lists.walks c.args.from c.requires.from_in_range in
+    sym (sent_all (linked c.args.self.now) c.args.from c.args.to walk (sym c.first_into.ensures.first ∙ c.in_default.is))
