@@ -34,20 +34,19 @@ fn read_along(arcs: &ArcPool, node: NodeRecord) -> (Targets, u32)
         map (λ a. (arc_of a).target) (own_part arcs.now.arcs node.span) }
     ensures version { result.1 ≡ version_of arcs.now.changed node }
 {
-    let mut nodes = [NodeId { number: 0 }; 16];
+    let mut targets = Targets {
+        count: node.span.count,
+        nodes: [NodeId { number: 0 }; 16],
+    };
     let mut version = node.version;
     for place in 0..node.span.count {
         let arc = node.span.first + place as u32;
         let (record, change) = arcs.arc_and_change(arc);
         version = version.max(change);
-        nodes[place as usize] = NodeId {
+        targets.nodes[place as usize] = NodeId {
             number: record.target,
         };
     }
-    let targets = Targets {
-        count: node.span.count,
-        nodes,
-    };
     (targets, version)
 }
 
