@@ -67,7 +67,8 @@ fn move_slot(lists: &mut StampedLists, from: u32, to: u32)
 }
 
 // Moves the arcs into the first target of each pair that have the flag to the pair's own spare slot, which is
-// empty, so that the two slots change their lists. One of which an earlier pair took the arcs has none left.
+// empty, so that at most one arc is touched. A target of which an earlier pair took the arcs has none left.
+#[inline(never)]
 fn park(lists: &mut StampedLists, moves: &[(u32, u32)], waits: bool)
     requires few { length moves.now ≤ MOST_MOVES }
     requires below { AreSlotsBelow (targets lists.old) moves.now }
@@ -83,6 +84,7 @@ fn park(lists: &mut StampedLists, moves: &[(u32, u32)], waits: bool)
 }
 
 // Moves the arcs in each pair's spare slot to the slot of the pair's second target.
+#[inline(never)]
 fn land(lists: &mut StampedLists, moves: &[(u32, u32)], waits: bool)
     requires few { length moves.now ≤ MOST_MOVES }
     requires below { AreSlotsBelow (targets lists.old) moves.now }
@@ -98,6 +100,7 @@ fn land(lists: &mut StampedLists, moves: &[(u32, u32)], waits: bool)
 }
 
 // Moves the arcs that have the flag as the pairs say, all at the same time.
+#[inline(always)]
 fn move_slots(lists: &mut StampedLists, moves: &[(u32, u32)], waits: bool)
     requires few { length moves.now ≤ MOST_MOVES }
     requires below { AreSlotsBelow (targets lists.old) moves.now }

@@ -243,9 +243,28 @@ impl StampedLists {
         let _ = self.len();
     }
 
-    // Moves all arcs of a slot, one at least, to another. Where there is only one it is not worth while to let
-    // the slots change their lists.
+    // Moves all arcs of a slot to another, those of the shorter list one by one.
     #[inline(never)]
+    fn merge_lists(&mut self, from: u32, to: u32)
+        requires different { from ≢ to }
+        requires from_in_range { from < targets self.old }
+        requires to_in_range { to < targets self.old }
+        ensures arcs { self.new.arcs ≡ map (retargeted ((from, to) ∷ [])) self.old.arcs }
+        ensures kept { IsKept self.old self.new }
+        ensures changed { self.new.changed ≡ self.old.changed }
+        ensures newest { self.new.newest ≡ self.old.newest }
+    {
+        if self.lists.is_at_most_as_long(from, to) {
+            self.move_all(from, to);
+            return;
+        }
+        self.move_all(to, from);
+        self.swap(from, to);
+    }
+
+    // Moves all arcs of a slot, one at least, to another. Where there is only one, it is not worth while to let
+    // the slots change their lists.
+    #[inline(always)]
     fn merge_from(&mut self, first: u32, from: u32, to: u32)
         requires different { from ≢ to }
         requires from_in_range { from < targets self.old }
@@ -262,15 +281,10 @@ impl StampedLists {
             self.move_only(first, from, to);
             return;
         }
-        if self.lists.is_at_most_as_long(from, to) {
-            self.move_all(from, to);
-            return;
-        }
-        self.move_all(to, from);
-        self.swap(from, to);
+        self.merge_lists(from, to);
     }
 
-    /// Moves all arcs of a slot to another, in the time for the shorter of the two lists.
+    /// Moves all arcs of a slot to another, in the time for the shorter of the two lists, or for one arc.
     #[inline(always)]
     pub fn merge(&mut self, from: u32, to: u32)
         requires different { from ≢ to }

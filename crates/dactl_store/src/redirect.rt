@@ -43,8 +43,9 @@ impl Store {
     /// all at the same time, and gives the version to each node whose targets are others then. An arc keeps
     /// its wait flag.
     ///
-    /// It visits no node, and takes time for the pairs and for the smaller part of each two lists of arcs that
-    /// become one: an arc is moved from list to list at most log2(arcs) times by all calls together.
+    /// It visits no node, and takes time for the square of the number of pairs and for the smaller part of each two
+    /// lists of arcs that become one: an arc that is not alone in its list is moved to another at most log2(arcs)
+    /// times by all calls together.
     pub fn redirect(&mut self, moves: &[(NodeId, NodeId)], version: u32)
         requires few { length moves.now ≤ 65 }
         requires nodes { AreNodes self.old.room.nodes moves.now }
