@@ -20,12 +20,12 @@ use Rattle.dactl_syntax.specs.Reading.{text_at}
 use Rattle.dactl_terminals.specs.Seen.{toks}
 use Rattle.dactl_syntax.specs.Answer.{tokens_seen, most_open, is_bracket, IsTree, IsFirstFault}
 use Rattle.dactl_syntax.specs.Laws.{Reads}
-use Rattle.dactl_syntax.proofs.ModuleLaws.{fit_text}
+use Rattle.dactl_syntax.proofs.ModuleLaws.{firm_text}
 use Rattle.dactl_syntax.proofs.TextGrowth.{g_text}
 use Rattle.dactl_terminals.proofs.Answered.{read_fault as fault_of, never_both as no_fault, one_fault as fault_is}
 
 pub text_laws : Bounded is_bracket text text_at (by (same_sort s.Module))
-text_laws = record { exact = λ n. (fit_text n).exact; grows = g_text }
+text_laws = record { exact = λ n. (firm_text n).fit.exact; grows = g_text }
 
 abbrev reading : List Tok → Result (ℕ × List Module) Fault
 reading l = read_all (text_at most_open) l

@@ -31,7 +31,7 @@ use Rattle.dactl_syntax.specs.Answer.{tokens_seen, most_open}
 use Rattle.dactl_syntax.specs.Laws.{Reads}
 use Rattle.dactl_syntax.proofs.TokenFacts.{RisesFrom, rises_sooner, tokens_are_seen}
 use Rattle.dactl_syntax.proofs.Holding.{holds_anything, holds_behind, holds_before, Some_of, holds_listed, holds_several, holds_separated, each_append, each_split, each_weaker, each_map, each_flat}
-use Rattle.dactl_syntax.proofs.PatternLaws.{solid_pattern_at}
+use Rattle.dactl_syntax.proofs.PatternLaws.{firm_pattern_at}
 use Rattle.dactl_syntax.proofs.Listed.{rules_each}
 
 -- ---- names stand where tokens stand
@@ -219,7 +219,7 @@ stand_from place (t ∷ l) r = let first = r.0 in (first, stand_from place l (ri
 
 -- a part that isn't empty begins before the place
 first_before : (n : ℕ) (front back : List Tok) (tree : PatternTree) (bound : ℕ) → (pattern n).whole front tree → Stand (StandBefore bound) front → first_place (λ t. t.place) (front ++ back) < bound
-first_before n [] back tree bound w h = absurd (solid_pattern_at n tree w)
+first_before n [] back tree bound w h = absurd ((firm_pattern_at n).solid tree w)
 first_before n (t ∷ front) back tree bound w h = h.0
 
 in_order : (r : RuleTree) (bound : ℕ) → r.place.byte < bound → IsPlaced (StandBefore bound) r.pattern → Each (HasPlacedLeft (StandFrom bound)) r.parts → IsInOrder r

@@ -15,14 +15,14 @@ use Rattle.dactl_syntax.specs.Laws.{Reads}
 use Rattle.dactl_terminals.proofs.Sorts.{apart}
 use Rattle.dactl_syntax.proofs.TokenFacts.{StartsAs, tokens_are_seen, tokens_start}
 use Rattle.dactl_syntax.proofs.Holding.{AreTold, split_told}
-use Rattle.dactl_syntax.proofs.ModuleLaws.{fit_modules}
+use Rattle.dactl_syntax.proofs.ModuleLaws.{firm_modules}
 
 -- no Header begins modules
 no_header_first : (l : List Tok) (ms : List Module) → (several (a_module most_open)).whole l ms → StartsAs true l → ⊥
 unfolding same_sort
 no_header_first [] ms w h = absurd cc
 no_header_first (t ∷ l) ms w h =
-    let fit = fit_modules most_open in
+    let fit = (firm_modules most_open).fit in
     let first = fit.starts t l (fit.exact.whole_begins (t ∷ l) ms w) in
     let other = apart (same_sort s.Header) (same_sort s.Module) refl t.sort h in
     absurd cc

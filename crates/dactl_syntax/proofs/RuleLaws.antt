@@ -16,16 +16,14 @@ use Rattle.dactl_syntax.specs.Reading.{args_at, term_at, redirects, part_at, pla
 use Rattle.dactl_terminals.proofs.Sorts.{every, bars, apart, implies, along, clears, cleared}
 use Rattle.dactl_grammar.proofs.Exact.{Stops, exact_choice}
 use Rattle.dactl_grammar.proofs.Same.{same_parted}
-use Rattle.dactl_terminals.proofs.Fits.{none, Solid, Fit, solid_means, solid_row_first, a_row, a_choice, a_meaning, a_place, solid_place, a_same, solid_choice_of, fit_lower, solid_lower, solid_behind, a_before, a_behind, a_list, solid_listed, solid_before}
-use Rattle.dactl_syntax.proofs.TermLaws.{goes_on_term, fit_term, solid_term, fit_args, solid_args}
-use Rattle.dactl_syntax.proofs.PatternLaws.{fit_pattern_at, solid_pattern_at}
+use Rattle.dactl_terminals.proofs.Fits.{none, solid_choice_of}
+use Rattle.dactl_terminals.proofs.Firm.{Firm, firm_as, firm_place, firm_same, firm_row, firm_pair, firm_behind, firm_before, firm_or, firm_list, firm_lower}
+use Rattle.dactl_syntax.proofs.TermLaws.{goes_on_term, firm_term, firm_args}
+use Rattle.dactl_syntax.proofs.PatternLaws.{firm_pattern_at}
 
-pub fit_term_at : (n : ℕ) → Fit (term (args n)) (term_at n) starts_term goes_on_term
+pub firm_term_at : (n : ℕ) → Firm (term (args n)) (term_at n) starts_term goes_on_term
 unfolding term_at
-fit_term_at n = fit_term (args n) (args_at n) (fit_args n) (solid_args n)
-
-pub solid_term_at : (n : ℕ) → Solid (term (args n))
-solid_term_at n = solid_term (args n) (args_at n) (fit_args n) (solid_args n)
+firm_term_at n = firm_term (args n) (args_at n) (firm_args n)
 
 abbrev pub goes_on_part : Sort → Bool
 goes_on_part s.Colon = true
@@ -47,9 +45,6 @@ goes_on_rules s.Colon = true
 goes_on_rules s.Open = true
 goes_on_rules s.Becomes = true
 goes_on_rules _ = false
-
-abbrev starts_body_ : Sort → Bool
-starts_body_ t = same_sort s.Rewrites t || same_sort s.Arrow t
 
 lower_no_mark : every (bars (same_sort s.Lower) starts_mark) ≡ true
 unfolding same_sort
@@ -80,18 +75,13 @@ module _ (n : ℕ) where
   abbrev read_redirect : Reads Part
   read_redirect = read_as part_redirect (read_pair lower_at (read_behind s.Becomes (term_at n)))
 
-  solid_redirect : Solid redirect
-  solid_redirect = solid_means part_redirect (pair lower (behind s.Becomes (term (args n)))) (solid_row_first lower (λ _. behind s.Becomes (term (args n))) solid_lower)
-
-  solid_plain : Solid plain
-  solid_plain = solid_means part_term (term (args n)) (solid_term_at n)
-
-  fit_redirect : Fit redirect read_redirect (same_sort s.Lower) goes_on_term
+  firm_redirect : Firm redirect read_redirect (same_sort s.Lower) goes_on_term
   unfolding same_sort
-  fit_redirect = a_meaning part_redirect (a_row (same_sort s.Lower) goes_on_term fit_lower (λ _. a_behind s.Becomes (fit_term_at n) (solid_term_at n) refl refl refl) refl refl (inl (λ _. solid_behind s.Becomes (term (args n)))) refl (inl solid_lower))
+  firm_redirect = firm_as part_redirect (firm_pair firm_lower (λ _. firm_behind s.Becomes (firm_term_at n) refl refl refl) refl refl refl)
 
-  pub fit_plain : Fit plain (read_as part_term (term_at n)) starts_term goes_on_term
-  fit_plain = a_meaning part_term (fit_term_at n)
+  pub firm_plain : Firm plain (plain_at n) starts_term goes_on_term
+  unfolding plain_at
+  firm_plain = firm_as part_term (firm_term_at n)
 
   and_both : (a b : Bool) → (a && b) ≡ true → (a ≡ true) × (b ≡ true)
   and_both true true h = (refl, refl)
@@ -104,7 +94,7 @@ module _ (n : ℕ) where
   no_term t u l b is_lower becomes =
       let marks = apart (same_sort s.Lower) starts_mark lower_no_mark t.sort is_lower in
       let colon = apart (same_sort s.Becomes) (same_sort s.Colon) becomes_no_colon u.sort becomes in
-      let far = (fit_term_at n).exact.reaches (t ∷ u ∷ l) [] b in
+      let far = (firm_term_at n).fit.exact.reaches (t ∷ u ∷ l) [] b in
       let near : left (term_at n (t ∷ u ∷ (l ++ []))) ≡ suc (length (l ++ [])) = rw (marks, is_lower, colon) refl in
       absurd (omega (arith, far, near))
 
@@ -112,18 +102,18 @@ module _ (n : ℕ) where
   unfolding lower_at
   redirect_at t u l true p q b = rw p refl
   redirect_at t u l false p q b =
-      let far = fit_redirect.exact.reaches (t ∷ u ∷ l) [] b in
+      let far = firm_redirect.fit.exact.reaches (t ∷ u ∷ l) [] b in
       let near : left (read_redirect (t ∷ u ∷ (l ++ []))) ≡ suc (length (l ++ [])) = rw (p, q) refl in
       absurd (omega (arith, far, near))
 
   redirect_second : (t u : Tok) (l : List Tok) → redirect.begins (t ∷ u ∷ l) → (is s.Lower t && is s.Becomes u) ≡ true
-  redirect_second t u l b = redirect_at t u l (is s.Becomes u) (fit_redirect.starts t (u ∷ l) b) refl b
+  redirect_second t u l b = redirect_at t u l (is s.Becomes u) (firm_redirect.fit.starts t (u ∷ l) b) refl b
 
   redirect_longer : (t : Tok) (a : Part) → redirect.whole (t ∷ []) a → ⊥
   unfolding lower_at
   redirect_longer t a w =
-      let p = fit_redirect.starts t [] (fit_redirect.exact.whole_begins (t ∷ []) a w) in
-      let far = fit_redirect.exact.complete (t ∷ []) a [] w tt in
+      let p = firm_redirect.fit.starts t [] (firm_redirect.fit.exact.whole_begins (t ∷ []) a w) in
+      let far = firm_redirect.fit.exact.complete (t ∷ []) a [] w tt in
       let near : read_redirect (t ∷ []) ≡ Err (Unexpected 0) = rw p refl in
       cc
 
@@ -145,108 +135,75 @@ module _ (n : ℕ) where
   no_redirect t u l false b p q k = refl
 
   whole_redirect : (u rest : List Tok) (a : Part) → redirect.whole u a → Stops (by goes_on_part) rest → (redirects (u ++ rest) ≡ true) × Stops (by goes_on_term) rest
-  whole_redirect [] rest a w h = absurd (solid_redirect a w)
+  whole_redirect [] rest a w h = absurd (firm_redirect.solid a w)
   whole_redirect (t ∷ []) rest a w h = absurd (redirect_longer t a w)
-  whole_redirect (t ∷ u ∷ l) rest a w h = (redirect_second t u l (fit_redirect.exact.whole_begins (t ∷ u ∷ l) a w), stops_part rest h)
+  whole_redirect (t ∷ u ∷ l) rest a w h = (redirect_second t u l (firm_redirect.fit.exact.whole_begins (t ∷ u ∷ l) a w), stops_part rest h)
 
   whole_plain : (u rest : List Tok) (a : Part) → plain.whole u a → Stops (by goes_on_part) rest → (redirects (u ++ rest) ≡ false) × Stops (by goes_on_term) rest
-  whole_plain [] rest a w h = absurd (solid_plain a w)
+  whole_plain [] rest a w h = absurd (firm_plain.solid a w)
   whole_plain (t ∷ []) rest a w h = (after_lower t rest h, stops_part rest h)
-  whole_plain (t ∷ u ∷ l) rest a w h = (no_redirect t u l (is s.Lower t) (is s.Becomes u) refl refl (fit_plain.exact.whole_begins (t ∷ u ∷ l) a w), stops_part rest h)
+  whole_plain (t ∷ u ∷ l) rest a w h = (no_redirect t u l (is s.Lower t) (is s.Becomes u) refl refl (firm_plain.fit.exact.whole_begins (t ∷ u ∷ l) a w), stops_part rest h)
 
   lower_begins_term : (t : Tok) → is s.Lower t ≡ true → (term (args n)).begins (t ∷ [])
   lower_begins_term t h = inr record { front = []; back = t ∷ []; value = None; parts = refl; first = refl; second = inl (inl h) }
 
   begins_redirect : (u rest : List Tok) → redirect.begins u → redirects (u ++ rest) ≡ false → plain.begins u
-  begins_redirect [] rest b h = fit_plain.exact.empty
-  begins_redirect (t ∷ []) rest b h = lower_begins_term t (fit_redirect.starts t [] b)
+  begins_redirect [] rest b h = firm_plain.fit.exact.empty
+  begins_redirect (t ∷ []) rest b h = lower_begins_term t (firm_redirect.fit.starts t [] b)
   begins_redirect (t ∷ u ∷ l) rest b h = let yes = redirect_second t u l b in absurd cc
 
   begins_plain : (u rest : List Tok) → plain.begins u → redirects (u ++ rest) ≡ true → redirect.begins u
-  begins_plain [] rest b h = fit_redirect.exact.empty
+  begins_plain [] rest b h = firm_redirect.fit.exact.empty
   begins_plain (t ∷ []) [] b h = absurd cc
   begins_plain (t ∷ []) (u ∷ rest) b h = inl (and_both (is s.Lower t) (is s.Becomes u) h).0
   begins_plain (t ∷ u ∷ l) rest b h = let k = and_both (is s.Lower t) (is s.Becomes u) h in absurd (no_term t u l b k.0 k.1)
 
   starts_part : (t : Tok) (l : List Tok) → redirect.begins (t ∷ l) ⊎ plain.begins (t ∷ l) → starts_term t.sort ≡ true
-  starts_part t l (inl b) = along (same_sort s.Lower) starts_term lower_starts t.sort (fit_redirect.starts t l b)
-  starts_part t l (inr b) = fit_plain.starts t l b
+  starts_part t l (inl b) = along (same_sort s.Lower) starts_term lower_starts t.sort (firm_redirect.fit.starts t l b)
+  starts_part t l (inr b) = firm_plain.fit.starts t l b
 
-  pub fit_part : Fit (part n) (part_at n) starts_term goes_on_part
-  unfolding part_at
-  fit_part = record {
-    exact = exact_choice redirects redirect plain read_redirect (read_as part_term (term_at n)) (by goes_on_term) (by goes_on_term) (by goes_on_part) fit_redirect.exact fit_plain.exact whole_redirect whole_plain begins_redirect begins_plain;
-    starts = starts_part;
+  pub firm_part : Firm (part n) (part_at n) starts_term goes_on_part
+  unfolding part_at plain_at
+  firm_part = record {
+    fit = record {
+      exact = exact_choice redirects redirect plain read_redirect (plain_at n) (by goes_on_term) (by goes_on_term) (by goes_on_part) firm_redirect.fit.exact firm_plain.fit.exact whole_redirect whole_plain begins_redirect begins_plain;
+      starts = starts_part;
+    };
+    solid = solid_choice_of redirect plain firm_redirect.solid firm_plain.solid;
   }
-
-  pub solid_part : Solid (part n)
-  solid_part = solid_choice_of redirect plain solid_redirect solid_plain
 
   -- ---- rules
 
-  pub fit_comma_part : Fit (behind s.Comma (part n)) (comma_part_at n) (same_sort s.Comma) goes_on_part
+  pub firm_comma_part : Firm (behind s.Comma (part n)) (comma_part_at n) (same_sort s.Comma) goes_on_part
   unfolding same_sort comma_part_at
-  fit_comma_part = a_behind s.Comma fit_part solid_part refl refl refl
+  firm_comma_part = firm_behind s.Comma firm_part refl refl refl
 
-  pub solid_comma_part : Solid (behind s.Comma (part n))
-  solid_comma_part = solid_behind s.Comma (part n)
+  pub firm_rewriting : Firm (rewriting n) (rewriting_at n) (same_sort s.Rewrites) goes_on_parts
+  unfolding same_sort rewriting_at plain_parts_at
+  firm_rewriting = firm_as rewrites_of (firm_behind s.Rewrites (firm_list goes_on_parts firm_plain firm_comma_part refl refl refl refl refl refl refl) refl refl refl)
 
-  pub fit_plain_parts : Fit (listed plain (behind s.Comma (part n))) (plain_parts_at n) starts_term goes_on_parts
-  unfolding same_sort plain_parts_at plain_at
-  fit_plain_parts = a_list goes_on_parts fit_plain solid_plain fit_comma_part solid_comma_part refl refl refl refl refl refl refl
+  pub firm_redirecting : Firm (redirecting n) (redirecting_at n) (same_sort s.Arrow) goes_on_parts
+  unfolding same_sort redirecting_at parts_at
+  firm_redirecting = firm_as redirects_of (firm_behind s.Arrow (firm_list goes_on_parts firm_part firm_comma_part refl refl refl refl refl refl refl) refl refl refl)
 
-  pub fit_parts : Fit (separated s.Comma (part n)) (parts_at n) starts_term goes_on_parts
-  unfolding same_sort parts_at
-  fit_parts = a_list goes_on_parts fit_part solid_part fit_comma_part solid_comma_part refl refl refl refl refl refl refl
-
-  pub fit_rewriting : Fit (rewriting n) (rewriting_at n) (same_sort s.Rewrites) goes_on_parts
-  unfolding same_sort rewriting_at
-  fit_rewriting = a_meaning rewrites_of (a_behind s.Rewrites fit_plain_parts (solid_listed plain (behind s.Comma (part n)) solid_plain) refl refl refl)
-
-  pub fit_redirecting : Fit (redirecting n) (redirecting_at n) (same_sort s.Arrow) goes_on_parts
-  unfolding same_sort redirecting_at
-  fit_redirecting = a_meaning redirects_of (a_behind s.Arrow fit_parts (solid_listed (part n) (behind s.Comma (part n)) solid_part) refl refl refl)
-
-  solid_rewriting : Solid (rewriting n)
-  solid_rewriting = solid_means rewrites_of (behind s.Rewrites (listed plain (behind s.Comma (part n)))) (solid_behind s.Rewrites (listed plain (behind s.Comma (part n))))
-
-  solid_redirecting : Solid (redirecting n)
-  solid_redirecting = solid_means redirects_of (behind s.Arrow (separated s.Comma (part n))) (solid_behind s.Arrow (separated s.Comma (part n)))
-
-  solid_body : Solid (choice (rewriting n) (redirecting n))
-  solid_body = solid_choice_of (rewriting n) (redirecting n) solid_rewriting solid_redirecting
-
-  solid_either : Solid (choice (pair (pattern n) (rewriting n)) (pair (pattern n) (redirecting n)))
-  solid_either = solid_choice_of (pair (pattern n) (rewriting n)) (pair (pattern n) (redirecting n)) (solid_row_first (pattern n) (λ _. rewriting n) (solid_pattern_at n)) (solid_row_first (pattern n) (λ _. redirecting n) (solid_pattern_at n))
-
-  pub fit_rule : Fit (rule n) (rule_at n) starts_piece goes_on_parts
+  pub firm_rule : Firm (rule n) (rule_at n) starts_piece goes_on_parts
   unfolding same_sort rule_at right_side_at
-  fit_rule = a_meaning rule_of (a_place
-      (a_same (same_parted (pattern n) (rewriting n) (redirecting n))
-      (a_row starts_piece goes_on_parts (fit_pattern_at n) (λ _. a_choice starts_body_ goes_on_parts fit_rewriting fit_redirecting solid_rewriting solid_redirecting refl refl refl refl refl) refl refl (inl (λ _. solid_body)) refl (inl (solid_pattern_at n))))
-      solid_either)
+  firm_rule = firm_as rule_of (firm_place
+      (firm_same (same_parted (pattern n) (rewriting n) (redirecting n))
+      (firm_pair (firm_pattern_at n) (λ _. firm_or goes_on_parts firm_rewriting firm_redirecting refl refl refl) refl refl refl)))
 
-  pub solid_rule : Solid (rule n)
-  solid_rule = solid_means rule_of (placed (λ t. t.place) (choice (pair (pattern n) (rewriting n)) (pair (pattern n) (redirecting n)))) (solid_place (choice (pair (pattern n) (rewriting n)) (pair (pattern n) (redirecting n))) solid_either)
-
-  pub fit_bar_rule : Fit (behind s.Bar (rule n)) (bar_rule_at n) (same_sort s.Bar) goes_on_parts
+  pub firm_bar_rule : Firm (behind s.Bar (rule n)) (bar_rule_at n) (same_sort s.Bar) goes_on_parts
   unfolding same_sort bar_rule_at
-  fit_bar_rule = a_behind s.Bar fit_rule solid_rule refl refl refl
+  firm_bar_rule = firm_behind s.Bar firm_rule refl refl refl
 
-  pub solid_bar_rule : Solid (behind s.Bar (rule n))
-  solid_bar_rule = solid_behind s.Bar (rule n)
-
-  pub fit_rule_list : Fit (separated s.Bar (rule n)) (rule_list_at n) starts_piece goes_on_rules
+  pub firm_rule_list : Firm (separated s.Bar (rule n)) (rule_list_at n) starts_piece goes_on_rules
   unfolding same_sort rule_list_at
-  fit_rule_list = a_list goes_on_rules fit_rule solid_rule fit_bar_rule solid_bar_rule refl refl refl refl refl refl refl
+  firm_rule_list = firm_list goes_on_rules firm_rule firm_bar_rule refl refl refl refl refl refl refl
 
-  pub fit_group : Fit (group n) (group_at n) starts_piece none
+  pub firm_group : Firm (group n) (group_at n) starts_piece none
   unfolding same_sort group_at
-  fit_group = a_meaning group_of (a_before s.Semicolon fit_rule_list (solid_listed (rule n) (behind s.Bar (rule n)) solid_rule) refl refl refl)
+  firm_group = firm_as group_of (firm_before s.Semicolon firm_rule_list refl refl refl)
 
-  pub solid_group : Solid (group n)
-  solid_group = solid_means group_of (before (separated s.Bar (rule n)) s.Semicolon) (solid_before (separated s.Bar (rule n)) s.Semicolon)
-
-  pub fit_groups : Fit (several (group n)) (groups_at n) starts_piece starts_piece
+  pub firm_groups : Firm (several (group n)) (groups_at n) starts_piece starts_piece
   unfolding same_sort groups_at
-  fit_groups = a_list starts_piece fit_group solid_group fit_group solid_group refl refl refl refl refl refl refl
+  firm_groups = firm_list starts_piece firm_group firm_group refl refl refl refl refl refl refl

@@ -10,23 +10,20 @@ use Rattle.dactl_syntax.specs.Productions.{arg, args}
 use Rattle.dactl_terminals.specs.Reads.{by, read_behind, read_before, read_sign}
 use Rattle.dactl_syntax.specs.Reading.{arg_at, args_at}
 use Rattle.dactl_terminals.specs.Seen.{seen, toks}
-use Rattle.dactl_terminals.proofs.Fits.{Fit, fit_sign, solid_sign, shrinks}
-use Rattle.dactl_syntax.proofs.TermLaws.{fit_arg, solid_arg, fit_args, solid_args, goes_on_term}
+use Rattle.dactl_terminals.proofs.Firm.{firm_shrinks, firm_sign}
+use Rattle.dactl_syntax.proofs.TermLaws.{firm_arg, firm_args}
 use Rattle.dactl_grammar.proofs.Loop.{Shrinks}
 
-pub fit_arg_at : (n : ℕ) → Fit (arg (args n)) (arg_at n) starts_arg goes_on_term
-unfolding arg_at
-fit_arg_at n = fit_arg (args n) (args_at n) (fit_args n) (solid_args n)
-
 pub arg_shrinks : (n : ℕ) → Shrinks (arg_at n)
-arg_shrinks n = shrinks (fit_arg_at n) (solid_arg (args n) (args_at n) (fit_args n) (solid_args n))
+unfolding arg_at
+arg_shrinks n = firm_shrinks (firm_arg (args n) (args_at n) (firm_args n))
 
 pub hash_shrinks : Shrinks (read_sign s.Hash)
-hash_shrinks = shrinks (fit_sign s.Hash) (solid_sign s.Hash)
+hash_shrinks = firm_shrinks (firm_sign s.Hash)
 
 pub one_left : (text : List ℕ) (l r : List Terminal) (t : Tok) → read_sign s.Hash (toks text l) ≡ Ok (t, toks text r) → length r + 1 ≡ length l
 one_left text l r t e =
-    let k = (fit_sign s.Hash).exact.sound (toks text l) t (toks text r) e in
+    let k = (firm_sign s.Hash).fit.exact.sound (toks text l) t (toks text r) e in
     let len = ap length (k.parts ∙ ap (λ (u : List Tok). u ++ toks text r) k.whole.0) in
     let len_l = length-map l (seen text) in
     let len_r = length-map r (seen text) in

@@ -1,5 +1,6 @@
 pub mod Sorts
 pub mod Fits
+pub mod Firm
 pub mod Grown
 pub mod Steps
 pub mod Values

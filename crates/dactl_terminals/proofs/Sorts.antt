@@ -15,6 +15,13 @@ all p (s ∷ l) = p s && all p l
 abbrev pub every : (Sort → Bool) → Bool
 every p = all p sorts
 
+pub every_of : (p : Sort → Bool) → ((s : Sort) → p s ≡ true) → every p ≡ true
+every_of p h = of sorts
+  where
+    of : (l : List Sort) → all p l ≡ true
+    of [] = refl
+    of (s ∷ l) = rw (h s, of l) refl
+
 abbrev at : List Sort → ℕ → Option Sort
 at [] n = None
 at (s ∷ l) zero = Some s

@@ -1,30 +1,19 @@
 use Rattle.std.proofs.Common.{sym, ◌∙◌}
 use Rattle.std.proofs.lemmas.Result.{err_from_is_err_and}
-use Rattle.dactl_syntax.specs.Sort.{starts_piece}
-use Rattle.dactl_terminals.specs.Reads.{by}
-use Rattle.dactl_syntax.specs.Reading.{group_at, groups_at}
-use Rattle.dactl_terminals.specs.Seen.{toks}
-use Rattle.dactl_grammar.proofs.Loop.{goes_on, ends, is_done}
-use Rattle.dactl_terminals.proofs.Fits.{shrinks}
-use Rattle.dactl_terminals.proofs.Steps.{less_left}
-use Rattle.dactl_syntax.proofs.RuleLaws.{fit_group, solid_group}
+use Rattle.dactl_terminals.proofs.Steps.{part_less, part_found, part_fails, all_found}
+use Rattle.dactl_syntax.proofs.RuleLaws.{firm_group}
 use Rattle.dactl_syntax.proofs.rules.groups.Goals as goal
 
 pub returns-in_err-item : goal.returns-in_err-item
 returns-in_err-item c =
     let p = err_from_is_err_and c.from_residual-in_err-item.result c.from_residual-in_err-item.ensures.1 in
-    rw (p.1, p.2) (ends (by starts_piece) (group_at c.args.room) (shrinks (fit_group c.args.room) (solid_group c.args.room)) c.in_err-item.field-0.0 c.more.found (toks c.args.text.now c.more.rest.now)
-    (groups_at c.args.room (toks c.args.text.now c.args.tokens.now)) (sym (c.starts_piece.ensures c.args.text.now) ∙ c.more-test.true) c.in_err-item.ensures c.more.invariant)
+    rw (p.1, p.2) (part_fails (firm_group c.args.room) c.more.invariant _ (sym (c.starts_piece.ensures c.args.text.now) ∙ c.more-test.true) c.in_err-item.ensures)
 
 pub more-smaller : goal.more-smaller
-more-smaller c = less_left (group_at c.args.room) (shrinks (fit_group c.args.room) (solid_group c.args.room)) c.args.text.now c.more.rest.now c.in_ok-item.after.now c.in_ok-item.item c.in_ok-item.ensures
+more-smaller c = part_less (firm_group c.args.room) c.more.invariant _ _ c.in_ok-item.ensures
 
 pub more-preserved : goal.more-preserved
-more-preserved c =
-    rw c.in_ok-push-2.ensures.ok (goes_on (by starts_piece) (group_at c.args.room) (shrinks (fit_group c.args.room) (solid_group c.args.room)) c.more.found (toks c.args.text.now c.more.rest.now) c.in_ok-item.item (toks c.args.text.now c.in_ok-item.after.now)
-    (groups_at c.args.room (toks c.args.text.now c.args.tokens.now)) (sym (c.starts_piece.ensures c.args.text.now) ∙ c.more-test.true) c.in_ok-item.ensures c.more.invariant)
+more-preserved c = rw c.in_ok-push-2.ensures.ok (part_found (firm_group c.args.room) c.more.invariant _ _ (sym (c.starts_piece.ensures c.args.text.now) ∙ c.more-test.true) c.in_ok-item.ensures)
 
 pub returns : goal.returns
-returns c =
-    is_done (by starts_piece) (group_at c.args.room) (shrinks (fit_group c.args.room) (solid_group c.args.room)) c.more.found (toks c.args.text.now c.more.rest.now)
-    (groups_at c.args.room (toks c.args.text.now c.args.tokens.now)) (sym (c.starts_piece.ensures c.args.text.now) ∙ c.more-test.false) c.more.invariant
+returns c = all_found (firm_group c.args.room) c.more.invariant (sym (c.starts_piece.ensures c.args.text.now) ∙ c.more-test.false)

@@ -1,31 +1,19 @@
 use Rattle.std.proofs.Common.{sym, ◌∙◌}
 use Rattle.std.proofs.lemmas.Result.{err_from_is_err_and}
-use Rattle.dactl_terminals.specs.declared.token.Sort.TheVariants as s
-use Rattle.dactl_terminals.specs.Sort.{same_sort}
-use Rattle.dactl_terminals.specs.Reads.{by}
-use Rattle.dactl_syntax.specs.Reading.{comma_part_at, parts_at}
-use Rattle.dactl_terminals.specs.Seen.{toks}
-use Rattle.dactl_grammar.proofs.Loop.{goes_on, ends, is_done}
-use Rattle.dactl_terminals.proofs.Fits.{shrinks}
-use Rattle.dactl_terminals.proofs.Steps.{less_left}
-use Rattle.dactl_syntax.proofs.RuleLaws.{fit_comma_part, solid_comma_part}
+use Rattle.dactl_terminals.proofs.Steps.{part_less, part_found, part_fails, all_found}
+use Rattle.dactl_syntax.proofs.RuleLaws.{firm_comma_part}
 use Rattle.dactl_syntax.proofs.rules.parts.Goals as goal
 
 pub returns-in_err-item : goal.returns-in_err-item
 returns-in_err-item c =
     let p = err_from_is_err_and c.from_residual-in_err-item.result c.from_residual-in_err-item.ensures.1 in
-    rw (p.1, p.2) (ends (by (same_sort s.Comma)) (comma_part_at c.args.room) (shrinks (fit_comma_part c.args.room) (solid_comma_part c.args.room)) c.in_err-item.field-0.0 c.more.found (toks c.args.text.now c.more.rest.now)
-    (parts_at c.args.room (toks c.args.text.now c.args.tokens.now)) (sym (c.next_is.ensures c.args.text.now) ∙ c.more-test.true) c.in_err-item.ensures c.more.invariant)
+    rw (p.1, p.2) (part_fails (firm_comma_part c.args.room) c.more.invariant _ (sym (c.next_is.ensures c.args.text.now) ∙ c.more-test.true) c.in_err-item.ensures)
 
 pub more-smaller : goal.more-smaller
-more-smaller c = less_left (comma_part_at c.args.room) (shrinks (fit_comma_part c.args.room) (solid_comma_part c.args.room)) c.args.text.now c.more.rest.now c.in_ok-item.after.now c.in_ok-item.item c.in_ok-item.ensures
+more-smaller c = part_less (firm_comma_part c.args.room) c.more.invariant _ _ c.in_ok-item.ensures
 
 pub more-preserved : goal.more-preserved
-more-preserved c =
-    rw c.in_ok-push-2.ensures.ok (goes_on (by (same_sort s.Comma)) (comma_part_at c.args.room) (shrinks (fit_comma_part c.args.room) (solid_comma_part c.args.room)) c.more.found (toks c.args.text.now c.more.rest.now) c.in_ok-item.item (toks c.args.text.now c.in_ok-item.after.now)
-    (parts_at c.args.room (toks c.args.text.now c.args.tokens.now)) (sym (c.next_is.ensures c.args.text.now) ∙ c.more-test.true) c.in_ok-item.ensures c.more.invariant)
+more-preserved c = rw c.in_ok-push-2.ensures.ok (part_found (firm_comma_part c.args.room) c.more.invariant _ _ (sym (c.next_is.ensures c.args.text.now) ∙ c.more-test.true) c.in_ok-item.ensures)
 
 pub returns : goal.returns
-returns c =
-    is_done (by (same_sort s.Comma)) (comma_part_at c.args.room) (shrinks (fit_comma_part c.args.room) (solid_comma_part c.args.room)) c.more.found (toks c.args.text.now c.more.rest.now)
-    (parts_at c.args.room (toks c.args.text.now c.args.tokens.now)) (sym (c.next_is.ensures c.args.text.now) ∙ c.more-test.false) c.more.invariant
+returns c = all_found (firm_comma_part c.args.room) c.more.invariant (sym (c.next_is.ensures c.args.text.now) ∙ c.more-test.false)

@@ -1,15 +1,13 @@
-use Rattle.std.proofs.Common.{◌≡◌, length}
+use Rattle.std.proofs.Common.{length}
 use Rattle.dactl_terminals.specs.declared.token.Sort.TheVariants as s
 use Rattle.dactl_terminals.specs.Sort.{same_sort}
-use Rattle.dactl_grammar.specs.Reader.{read_many}
-use Rattle.dactl_terminals.specs.Reads.{by}
-use Rattle.dactl_syntax.specs.Reading.{comma_part_at, parts_at}
 use Rattle.dactl_terminals.specs.Seen.{toks}
-use Rattle.dactl_grammar.proofs.Loop.{with_front}
+use Rattle.dactl_terminals.proofs.Steps.{HasFound}
+use Rattle.dactl_syntax.specs.Reading.{comma_part_at, parts_at}
 use Rattle.dactl_syntax.proofs.rules.parts.Given as goal
 
 abbrev pub invariant-more : goal.invariant-more
-invariant-more l = with_front l.found (read_many (by (same_sort s.Comma)) (comma_part_at l.room) (toks l.text l.rest)) ≡ parts_at l.room (toks l.text l.tokens)
+invariant-more l = HasFound (same_sort s.Comma) (comma_part_at l.room) l.found l.text l.rest (parts_at l.room (toks l.text l.tokens))
 
 abbrev pub decreases-more : goal.decreases-more
 decreases-more l = length l.rest
