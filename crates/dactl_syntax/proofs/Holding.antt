@@ -1,6 +1,6 @@
 -- What holds of the meanings of the parts holds of the meaning of the whole: for a token before and behind a part, and for lists.
 use Rattle.std.proofs.Common.{◌≡◌, ℕ, ◌+◌, ◌<◌, Bool, true, false, List, [], ◌∷◌, ◌++◌, length, map, cond, refl, arith}
-use Rattle.std.specs.List.{AllByRecursion as Each, filter, flat_map, enumerate_from}
+use Rattle.std.specs.List.{AllByRecursion as Each, list_all, filter, flat_map, enumerate_from}
 use Rattle.dactl_terminals.specs.declared.token.Sort.{Sort}
 use Rattle.dactl_terminals.specs.Parts.{Tok, Part_of, is, behind, before, listed, separated}
 use Rattle.dactl_syntax.specs.Productions.{several}
@@ -19,6 +19,9 @@ holds_behind {A} {Good} {P} {X} k split p = holds_means (λ v. v.1) X (λ v h. h
 
 pub holds_before : {A : Type 0} {Good : List Tok → Type 0} {P : Part_of A} {X : A → Type 0} (k : Sort) → Splits Good → Holds Good P X → Holds Good (before P k) X
 holds_before {A} {Good} {P} {X} k split p = holds_means (λ v. v.0) X (λ v h. h.0) (holds_row split p (λ _. holds_one (is k)))
+
+pub holds_both : {A : Type 0} {Good : List Tok → Type 0} {P : Part_of A} (X Y : A → Type 0) → Holds Good P X → Holds Good P Y → Holds Good P (λ a. X a × Y a)
+holds_both X Y p q = record { of = λ l a g w. (p.of l a g w, q.of l a g w) }
 
 -- a list that has a member, and the fact holds of each
 pub record Some_of {A : Type 0} (X : A → Type 0) (vs : List A) : Type 0 where
@@ -63,6 +66,10 @@ each_filter {X} P p (x ∷ xs) h = kept (p x) refl (each_filter P p xs h.1)
     kept : (b : Bool) → p x ≡ b → Each P (filter p xs) → Each P (cond b (x ∷ filter p xs) (filter p xs))
     kept true e k = (h.0 e, k)
     kept false e k = k
+
+pub each_passes : {X Y : Type 0} (p : Y → Bool) (f : X → Y) (xs : List X) → Each (λ x. p (f x) ≡ true) xs → list_all p (map f xs) ≡ true
+each_passes p f [] h = refl
+each_passes p f (x ∷ xs) h = rw (h.0, each_passes p f xs h.1) refl
 
 pub each_numbered : {X : Type 0} (P : X → Type 0) (n : ℕ) (xs : List X) → Each P xs → Each (λ (i : ℕ × X). P i.1) (enumerate_from n xs)
 each_numbered P n [] h = tt

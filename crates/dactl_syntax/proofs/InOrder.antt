@@ -15,10 +15,6 @@ use Rattle.dactl_meaning.specs.declared.tree.PatternTree.TheViews.{roll-PatternT
 use Rattle.dactl_meaning.specs.declared.tree.PatternTree.TheFolds.{fold-roll-PatternTree, map-PatternTree}
 use Rattle.dactl_meaning.specs.declared.tree.Part.{Part}
 use Rattle.dactl_meaning.specs.declared.tree.RuleTree.{RuleTree}
-use Rattle.dactl_meaning.specs.declared.tree.Group.{Group}
-use Rattle.dactl_meaning.specs.declared.tree.Item.{Item}
-use Rattle.dactl_meaning.specs.declared.tree.Item.TheVariants as item
-use Rattle.dactl_meaning.specs.declared.tree.Module.{Module}
 use Rattle.dactl_meaning.specs.declared.tree.Text.{Text}
 use Rattle.dactl_terminals.specs.Parts.{Tok, Part_of, is, sign, behind, before, pair, upper, lower, name_of, value_at}
 use Rattle.dactl_syntax.specs.Productions.{term, args, any_of, int_of, char_of, number_of, letter, character_of, pattern_sym_of, base, piece_at, piece_of, piece, operator, chain_at, chain_of, pattern_over, squares, rounds, pattern, part_term, part_redirect, part, rewrites_of, redirects_of, rewriting, redirecting, rule_of, rule, group_of, group, imports_of, symbols_of, pattern_named_of, rules_of, rules, initial_of, an_item, is_name, module_of, a_module, language_of, text}
@@ -30,8 +26,9 @@ use Rattle.dactl_meaning.specs.Declarations.{groups, rules as all_rules}
 use Rattle.dactl_syntax.specs.Answer.{tokens_seen, most_open}
 use Rattle.dactl_syntax.specs.Laws.{Reads}
 use Rattle.dactl_syntax.proofs.TokenFacts.{RisesFrom, rises_sooner, tokens_are_seen}
-use Rattle.dactl_syntax.proofs.Holding.{holds_anything, holds_behind, holds_before, Some_of, holds_listed, holds_several, holds_separated, each_append, each_split, each_weaker, each_map, each_flat}
+use Rattle.dactl_syntax.proofs.Holding.{Anything, holds_anything, holds_behind, holds_before, Some_of, holds_listed, holds_several, holds_separated, each_append, each_split, each_weaker, each_map, each_flat}
 use Rattle.dactl_syntax.proofs.PatternLaws.{firm_pattern_at}
+use Rattle.dactl_syntax.proofs.Walk.{modules_hold}
 use Rattle.dactl_syntax.proofs.Listed.{rules_each}
 
 -- ---- names stand where tokens stand
@@ -95,21 +92,6 @@ module _ (G : ℕ → Type 0) where
   links_wide [] h = tt
   links_wide (l ∷ rest) h = each_append _ (widths l.1) _ h.0.symbols (links_wide rest h.1)
 
-  any_placed : IsPlaced p.Any
-  any_placed = from_layer p.Any PatternTree-F.Any rolls-Any (λ choice. tt) tt
-
-  int_placed : IsPlaced p.Int
-  int_placed = from_layer p.Int PatternTree-F.Int rolls-Int (λ choice. tt) tt
-
-  char_placed : IsPlaced p.Char
-  char_placed = from_layer p.Char PatternTree-F.Char rolls-Char (λ choice. tt) tt
-
-  number_placed : (t : Tok) → IsPlaced (number_of t)
-  number_placed t = from_layer (p.Integer (value_at true t.word)) (PatternTree-F.Integer (value_at true t.word)) (rolls-Integer (value_at true t.word)) (λ choice. tt) tt
-
-  character_placed : (t : Tok) → IsPlaced (character_of t)
-  character_placed t = from_layer (p.Letter (letter t.word)) (PatternTree-F.Letter (letter t.word)) (rolls-Letter (letter t.word)) (λ choice. tt) tt
-
   symbol_placed : (name : Name) (given : Option (List PatternTree)) → IsPlacedName name → IfThere (Each IsPlaced) given → IsPlaced (pattern_sym_of (name, given))
   symbol_placed name None h k = from_layer (p.Sym name []) (PatternTree-F.Sym name []) (rolls-Sym name []) (λ choice. tt) (h, tt)
   symbol_placed name (Some given) h k = from_layer (p.Sym name given) (PatternTree-F.Sym name given) (rolls-Sym name given) (args_occur given k) (h, args_wide given k)
@@ -127,11 +109,11 @@ module _ (G : ℕ → Type 0) where
   module _ (square : Part_of (List PatternTree)) (round : Part_of PatternTree) (square_placed : Holds Stand square (Each IsPlaced)) (round_placed : Holds Stand round IsPlaced) where
     base_placed : Holds Stand (base square round) IsPlaced
     base_placed =
-        holds_choice (holds_means any_of IsPlaced (λ t h. any_placed) (holds_one (is s.Any)))
-        (holds_choice (holds_means int_of IsPlaced (λ t h. int_placed) (holds_one (is s.Int)))
-        (holds_choice (holds_means char_of IsPlaced (λ t h. char_placed) (holds_one (is s.Char)))
-        (holds_choice (holds_means number_of IsPlaced (λ t h. number_placed t) (holds_one (is s.Integer)))
-        (holds_choice (holds_means character_of IsPlaced (λ t h. character_placed t) (holds_one (is s.Character)))
+        holds_choice (holds_means any_of IsPlaced (λ t h. from_layer p.Any PatternTree-F.Any rolls-Any (λ choice. tt) tt) (holds_one (is s.Any)))
+        (holds_choice (holds_means int_of IsPlaced (λ t h. from_layer p.Int PatternTree-F.Int rolls-Int (λ choice. tt) tt) (holds_one (is s.Int)))
+        (holds_choice (holds_means char_of IsPlaced (λ t h. from_layer p.Char PatternTree-F.Char rolls-Char (λ choice. tt) tt) (holds_one (is s.Char)))
+        (holds_choice (holds_means number_of IsPlaced (λ t h. from_layer (number_of t) (PatternTree-F.Integer (value_at true t.word)) (rolls-Integer (value_at true t.word)) (λ choice. tt) tt) (holds_one (is s.Integer)))
+        (holds_choice (holds_means character_of IsPlaced (λ t h. from_layer (character_of t) (PatternTree-F.Letter (letter t.word)) (rolls-Letter (letter t.word)) (λ choice. tt) tt) (holds_one (is s.Character)))
         (holds_choice (holds_means pattern_sym_of IsPlaced (λ v h. symbol_placed v.0 v.1 h.0 h.1) (holds_row split_stand upper_placed (λ _. holds_maybe square_placed))) round_placed)))))
 
     a_piece_placed : Holds Stand (piece square round) IsPlaced
@@ -266,44 +248,11 @@ ruled_raises n = record {
 rule_raises : (n : ℕ) → Raises (rule n) IsInOrder
 rule_raises n = holds_means rule_of IsInOrder (λ v h. h) (ruled_raises n)
 
-abbrev IsOrderedGroup : Group → Type 0
-IsOrderedGroup g = Each IsInOrder g.rules
-
--- an item whose rules are in order
-abbrev IsOrderedItem : Item → Type 0
-IsOrderedItem (item.Rules groups) = Each IsOrderedGroup groups
-IsOrderedItem _ = Unit {0}
-
-abbrev IsOrderedModule : Module → Type 0
-IsOrderedModule m = Each IsOrderedItem m.items
-
-module _ (n : ℕ) where
-  group_raises : Raises (group n) IsOrderedGroup
-  group_raises = holds_means group_of IsOrderedGroup (λ rs h. h.each) (holds_before s.Semicolon splits_rise (holds_separated s.Bar splits_rise (rule_raises n)))
-
-  rules_raise : Raises (rules n) IsOrderedItem
-  rules_raise = holds_means rules_of IsOrderedItem (λ gs h. h.each) (holds_behind s.Rule splits_rise (holds_several splits_rise group_raises))
-
-  item_raises : Raises (an_item n) IsOrderedItem
-  item_raises =
-      holds_choice (holds_means imports_of IsOrderedItem (λ v h. tt) (holds_anything _))
-      (holds_choice (holds_means symbols_of IsOrderedItem (λ v h. tt) (holds_anything _))
-      (holds_choice (holds_means pattern_named_of IsOrderedItem (λ v h. tt) (holds_anything _))
-      (holds_choice rules_raise (holds_means initial_of IsOrderedItem (λ v h. tt) (holds_anything _)))))
-
-  module_raises : Raises (a_module n) IsOrderedModule
-  module_raises = holds_means module_of IsOrderedModule (λ v h. h.1.0) (holds_behind s.Module splits_rise (holds_row splits_rise (holds_anything (before upper s.Semicolon)) (λ name. holds_row splits_rise (holds_many splits_rise item_raises) (λ _. holds_anything (behind s.EndModule (before (one (is_name name)) s.Semicolon))))))
-
-  -- the modules of a text are in order
-  abbrev IsOrderedText : ℕ × List Module → Type 0
-  IsOrderedText v = Some_of IsOrderedModule v.1
-
-  text_raises : Raises (text n) IsOrderedText
-  text_raises = holds_weaker _ IsOrderedText (λ v h. h.1) (holds_row splits_rise (holds_anything (means language_of (maybe (sign s.Header)))) (λ _. holds_several splits_rise module_raises))
-
 -- ---- the rules of a text
 
 pub places_stand_in_order : (bytes : List ℕ) (tree : Text) → Reads bytes tree → PlacesInOrder tree
 places_stand_in_order bytes tree r =
-    let given = ((text_raises most_open).of (tokens_seen bytes r.tokens) (tree.language, tree.modules) (0, (tokens_are_seen bytes r.tokens r.lexes).rise) r.is_tree.derives).each in
-    All-from_recursion _ (all_rules tree) (rules_each IsOrderedItem tree given IsOrderedGroup IsInOrder (λ gs h. h) (λ g h. h))
+    let row = r.is_tree.derives in
+    let rise = splits_rise row.front row.back (subst Rise row.parts (0, (tokens_are_seen bytes r.tokens r.lexes).rise)) in
+    let raises = modules_hold IsInOrder Anything Anything Anything Rise splits_rise most_open (rule_raises most_open) (holds_anything _) (holds_anything _) (holds_anything _) in
+    All-from_recursion _ (all_rules tree) (rules_each IsInOrder Anything Anything Anything tree (raises.of row.back tree.modules rise.1 row.second).each)

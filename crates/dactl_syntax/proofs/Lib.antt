@@ -11,6 +11,7 @@ pub mod Written
 pub mod Numbers
 pub mod TokenFacts
 pub mod Holding
+pub mod Walk
 pub mod Listed
 pub mod Language
 pub mod Narrow

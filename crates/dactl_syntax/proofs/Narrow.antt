@@ -1,10 +1,9 @@
 -- What is read of tokens of language 1 has integers of 64 bits and no characters.
-use Rattle.std.proofs.Common.{◌≡◌, ℕ, zero, suc, ◌-◌, ◌^◌, ◌<◌, Bool, true, false, List, [], ◌∷◌, ◌++◌, map, Option, Some, None, All, IsTrue, refl, sym, ap, ◌∙◌, arith}
+use Rattle.std.proofs.Common.{◌≡◌, ℕ, zero, suc, ◌-◌, ◌^◌, ◌<◌, Bool, true, false, List, [], ◌∷◌, ◌++◌, map, Option, Some, None, All, IsTrue, refl, sym, ap, subst, ◌∙◌, arith}
 use Rattle.std.specs.Prelude.{unwrap_or, is_some, ℤ, pos, negsuc}
 use Rattle.std.specs.Int.Signed.{mag}
 use Rattle.std.specs.List.{AllByRecursion as Each, list_all}
 use Rattle.std.proofs.lemmas.Bool.{le-leb, lt-ltb}
-use Rattle.std.proofs.lemmas.List.Elements.{All-from_recursion}
 use Rattle.dactl_model.specs.Integers.{is_word}
 use Rattle.dactl_grammar.specs.Grammar.{one, maybe, means}
 use Rattle.dactl_grammar.proofs.Holds.{Holds, IfThere, holds_one, holds_row, holds_choice, holds_maybe, holds_many, holds_means, holds_barred, holds_placed}
@@ -26,23 +25,11 @@ use Rattle.dactl_meaning.specs.declared.tree.PatternTree.TheVariants.{rolls-Any,
 use Rattle.dactl_meaning.specs.declared.tree.PatternTree.TheOpen.{PatternTree-F}
 use Rattle.dactl_meaning.specs.declared.tree.PatternTree.TheViews.{roll-PatternTree}
 use Rattle.dactl_meaning.specs.declared.tree.PatternTree.TheFolds.{fold-roll-PatternTree, map-PatternTree}
-use Rattle.dactl_meaning.specs.declared.tree.Part.{Part}
-use Rattle.dactl_meaning.specs.declared.tree.RuleTree.{RuleTree}
-use Rattle.dactl_meaning.specs.declared.tree.Group.{Group}
-use Rattle.dactl_meaning.specs.declared.tree.Item.{Item}
-use Rattle.dactl_meaning.specs.declared.tree.Item.TheVariants as item
-use Rattle.dactl_meaning.specs.declared.tree.Module.{Module}
-use Rattle.dactl_meaning.specs.declared.tree.Text.{Text}
 use Rattle.dactl_terminals.specs.Parts.{Tok, Part_of, is, here, sign, behind, before, upper, lower, value_at}
 use Rattle.dactl_syntax.specs.Productions.{several, mark, integer_of, letter_of, sym_of, node, named_of, bare_of, body, term_of, term, arg_of, arg, args, any_of, int_of, char_of, number_of, character_of, pattern_sym_of, base, piece_at, piece_of, piece, operator, chain_at, chain_of, pattern_over, squares, rounds, pattern, part_term, part_redirect, part, rewrites_of, redirects_of, rewriting, redirecting, rule_of, rule, group_of, group, imports_of, symbols_of, pattern_named_of, named, rules_of, rules, initial_of, initial, an_item, is_name, module_of, a_module}
 use Rattle.dactl_meaning.specs.Spelling.{pattern_narrow, is_narrow_pattern, node_narrow, arg_narrow, term_narrow, is_narrow_term, contracta, all_patterns, IsNarrowText}
-use Rattle.dactl_meaning.specs.Contractum.{term_of_part}
-use Rattle.dactl_meaning.specs.Declarations.{PlacedRule, rules as all_rules}
-use Rattle.dactl_meaning.specs.Meaning.{all_initials}
-use Rattle.dactl_syntax.specs.Answer.{most_open}
 use Rattle.dactl_syntax.proofs.TokenFacts.{IsTold, character_is}
-use Rattle.dactl_syntax.proofs.Holding.{AreTold, split_told, holds_anything, holds_behind, holds_before, Some_of, holds_listed, holds_several, holds_separated, each_append, each_weaker, each_map}
-use Rattle.dactl_syntax.proofs.Listed.{named_each, initials_each, rules_each}
+use Rattle.dactl_syntax.proofs.Holding.{AreTold, split_told, holds_anything, holds_behind, holds_before, Some_of, holds_listed, holds_several, holds_separated, each_weaker, each_passes}
 
 -- the fact holds of what tokens of language 1 mean
 abbrev Keeps : {A : Type 0} → Part_of A → (A → Type 0) → Type 0
@@ -77,15 +64,11 @@ IsNarrowNode n = narrow_node n ≡ true
 abbrev IsNarrowArg : ArgTree → Type 0
 IsNarrowArg a = narrow_arg a ≡ true
 
-abbrev IsNarrow : TermTree → Type 0
+abbrev pub IsNarrow : TermTree → Type 0
 IsNarrow t = IsTrue (is_narrow_term t)
 
-args_narrow : (given : List ArgTree) → Each IsNarrowArg given → list_all (λ b. b) (map narrow_arg given) ≡ true
-args_narrow [] h = refl
-args_narrow (a ∷ given) h = rw (h.0, args_narrow given h.1) refl
-
 sym_narrow : (name : Name) (given : List ArgTree) → Each IsNarrowArg given → IsNarrowNode (node_tree.Sym name given)
-sym_narrow name given h = ap narrow_node (sym (rolls-Sym name given)) ∙ fold-roll-NodeTree Bool Bool Bool node_narrow arg_narrow term_narrow (NodeTree-F.Sym name given) ∙ args_narrow given h
+sym_narrow name given h = ap narrow_node (sym (rolls-Sym name given)) ∙ fold-roll-NodeTree Bool Bool Bool node_narrow arg_narrow term_narrow (NodeTree-F.Sym name given) ∙ each_passes (λ b. b) narrow_arg given h
 
 integer_narrow : (t : Tok) → mag (value_at true t.word) < 2 ^ 63 → IsNarrowNode (integer_of t)
 integer_narrow t h = ap narrow_node (sym (rolls-Integer (value_at true t.word) (here t))) ∙ fold-roll-NodeTree Bool Bool Bool node_narrow arg_narrow term_narrow (NodeTree-F.Integer (value_at true t.word) (here t)) ∙ word_within (value_at true t.word) h
@@ -133,19 +116,15 @@ args_keep (suc n) = holds_behind s.Open split (holds_before s.Close split (holds
 
 -- ---- patterns
 
-abbrev IsNarrowPattern : PatternTree → Type 0
+abbrev pub IsNarrowPattern : PatternTree → Type 0
 IsNarrowPattern t = IsTrue (is_narrow_pattern t)
 
 level : (t : PatternTree) (x : PatternTree-F PatternTree) → roll-PatternTree x ≡ t → pattern_narrow (map-PatternTree PatternTree Bool is_narrow_pattern x) ≡ true → IsNarrowPattern t
 level t x e h = ap is_narrow_pattern (sym e) ∙ fold-roll-PatternTree Bool pattern_narrow x ∙ h
 
-pieces_narrow : (given : List PatternTree) → Each IsNarrowPattern given → list_all (λ b. b) (map is_narrow_pattern given) ≡ true
-pieces_narrow [] h = refl
-pieces_narrow (t ∷ given) h = rw (h.0, pieces_narrow given h.1) refl
-
 symbol_narrow : (name : Name) (given : Option (List PatternTree)) → IfThere (Each IsNarrowPattern) given → IsNarrowPattern (pattern_sym_of (name, given))
 symbol_narrow name None h = level (p.Sym name []) (PatternTree-F.Sym name []) (rolls-Symbol name []) refl
-symbol_narrow name (Some given) h = level (p.Sym name given) (PatternTree-F.Sym name given) (rolls-Symbol name given) (pieces_narrow given h)
+symbol_narrow name (Some given) h = level (p.Sym name given) (PatternTree-F.Sym name given) (rolls-Symbol name given) (each_passes (λ b. b) is_narrow_pattern given h)
 
 piece_narrow : (name : Name) (inner : Option PatternTree) → IfThere IsNarrowPattern inner → IsNarrowPattern (piece_at name inner)
 piece_narrow name None h = level (p.Variable name) (PatternTree-F.Variable name) (rolls-Variable name) refl
@@ -155,13 +134,9 @@ piece_narrow name (Some inner) h = level (p.Binder name inner) (PatternTree-F.Bi
 abbrev IsNarrowLink : Sign × PatternTree → Type 0
 IsNarrowLink l = IsNarrowPattern l.1
 
-links_narrow : (rest : List (Sign × PatternTree)) → Each IsNarrowLink rest → list_all {X = Sign × Bool} (λ link. link.1) (map (λ l. (l.0, is_narrow_pattern l.1)) rest) ≡ true
-links_narrow [] h = refl
-links_narrow (l ∷ rest) h = rw (h.0, links_narrow rest h.1) refl
-
 chain_narrow : (first : PatternTree) (rest : List (Sign × PatternTree)) → IsNarrowPattern first → Each IsNarrowLink rest → IsNarrowPattern (chain_at first rest)
 chain_narrow first [] h k = h
-chain_narrow first (l ∷ rest) h k = level (p.Chain first (l ∷ rest)) (PatternTree-F.Chain first (l ∷ rest)) (rolls-Chain first (l ∷ rest)) (rw (h, links_narrow (l ∷ rest) k) refl)
+chain_narrow first (l ∷ rest) h k = level (p.Chain first (l ∷ rest)) (PatternTree-F.Chain first (l ∷ rest)) (rolls-Chain first (l ∷ rest)) (rw (h, each_passes (λ (link : Sign × Bool). link.1) (λ (l : Sign × PatternTree). (l.0, is_narrow_pattern l.1)) (l ∷ rest) k) refl)
 
 module _ (square : Part_of (List PatternTree)) (round : Part_of PatternTree) (square_keeps : Keeps square (Each IsNarrowPattern)) (round_keeps : Keeps round IsNarrowPattern) where
   base_keeps : Keeps (base square round) IsNarrowPattern
@@ -191,101 +166,13 @@ both_keep (suc n) = let b = both_keep n in record {
   round = holds_behind s.Left split (holds_before s.Right split (over_keeps (squares n) (rounds n) b.square b.round));
 }
 
--- ---- rules
+-- ---- patterns and terms of language 1, among those of both languages
 
-abbrev IsNarrowPart : Part → Type 0
-IsNarrowPart t = IsNarrow (term_of_part t)
+narrow_when : {A : Type 0} {P : Part_of A} (wide : Bool) (X : A → Type 0) → Keeps P X → Holds (AreTold wide) P (λ a. wide ≡ false → X a)
+narrow_when wide X p = record { of = λ l a told w e. p.of l a (subst (λ (b : Bool). AreTold b l) e told) w }
 
-abbrev IsNarrowSide : Bool × List Part → Type 0
-IsNarrowSide v = Each IsNarrowPart v.1
+pub patterns_narrow : (wide : Bool) (n : ℕ) → Holds (AreTold wide) (pattern n) (λ t. wide ≡ false → IsNarrowPattern t)
+patterns_narrow wide n = let b = both_keep n in narrow_when wide IsNarrowPattern (over_keeps (squares n) (rounds n) b.square b.round)
 
--- the pattern and the terms of a rule
-abbrev IsNarrowRule : RuleTree → Type 0
-IsNarrowRule r = IsNarrowPattern r.pattern × Each IsNarrowPart r.parts
-
-abbrev IsNarrowGroup : Group → Type 0
-IsNarrowGroup g = Each IsNarrowRule g.rules
-
-abbrev IsNarrowItem : Item → Type 0
-IsNarrowItem (item.Imports imported) = Unit {0}
-IsNarrowItem (item.Symbols seen public declared) = Unit {0}
-IsNarrowItem (item.Named public name pattern) = IsNarrowPattern pattern
-IsNarrowItem (item.Rules groups) = Each IsNarrowGroup groups
-IsNarrowItem (item.Initial place terms) = Each IsNarrow terms
-
-abbrev IsNarrowModule : Module → Type 0
-IsNarrowModule m = Each IsNarrowItem m.items
-
-module _ (n : ℕ) where
-  a_pattern_keeps : Keeps (pattern n) IsNarrowPattern
-  a_pattern_keeps = let b = both_keep n in over_keeps (squares n) (rounds n) b.square b.round
-
-  a_term_keeps : Keeps (term (args n)) IsNarrow
-  a_term_keeps = term_keeps (args n) (args_keep n)
-
-  plain_keeps : Keeps (means part_term (term (args n))) IsNarrowPart
-  plain_keeps = holds_means part_term IsNarrowPart (λ t h. h) a_term_keeps
-
-  part_keeps : Keeps (part n) IsNarrowPart
-  part_keeps = holds_choice (holds_means part_redirect IsNarrowPart (λ v h. h.1) (holds_row split (holds_anything lower) (λ _. holds_behind s.Becomes split a_term_keeps))) plain_keeps
-
-  rewriting_keeps : Keeps (rewriting n) IsNarrowSide
-  rewriting_keeps = holds_means rewrites_of IsNarrowSide (λ ps h. h.each) (holds_behind s.Rewrites split (holds_listed split plain_keeps (holds_behind s.Comma split part_keeps)))
-
-  redirecting_keeps : Keeps (redirecting n) IsNarrowSide
-  redirecting_keeps = holds_means redirects_of IsNarrowSide (λ ps h. h.each) (holds_behind s.Arrow split (holds_separated s.Comma split part_keeps))
-
-  rule_keeps : Keeps (rule n) IsNarrowRule
-  rule_keeps = holds_means rule_of IsNarrowRule (λ v h. (h.0, h.1)) (holds_placed (λ t. t.place)
-      (holds_choice (holds_row split a_pattern_keeps (λ _. rewriting_keeps)) (holds_row split a_pattern_keeps (λ _. redirecting_keeps))))
-
-  group_keeps : Keeps (group n) IsNarrowGroup
-  group_keeps = holds_means group_of IsNarrowGroup (λ rs h. h.each) (holds_before s.Semicolon split (holds_separated s.Bar split rule_keeps))
-
-  -- ---- items and modules
-
-  rules_keep : Keeps (rules n) IsNarrowItem
-  rules_keep = holds_means rules_of IsNarrowItem (λ gs h. h.each) (holds_behind s.Rule split (holds_several split group_keeps))
-
-  initial_keeps : Keeps (initial n) IsNarrowItem
-  initial_keeps = holds_means initial_of IsNarrowItem (λ v h. h.1.each) (holds_row split (holds_one (is s.Initial)) (λ _. holds_behind s.Rewrites split (holds_before s.Semicolon split (holds_separated s.Comma split a_term_keeps))))
-
-  named_keeps : Keeps (named n) IsNarrowItem
-  named_keeps = holds_means pattern_named_of IsNarrowItem (λ v h. h.1.1) (holds_behind s.Pattern split (holds_row split (holds_anything _) (λ _. holds_row split (holds_anything upper) (λ _. holds_behind s.Equals split (holds_before s.Semicolon split a_pattern_keeps)))))
-
-  item_keeps : Keeps (an_item n) IsNarrowItem
-  item_keeps =
-      holds_choice (holds_means imports_of IsNarrowItem (λ v h. tt) (holds_anything _))
-      (holds_choice (holds_means symbols_of IsNarrowItem (λ v h. tt) (holds_anything _))
-      (holds_choice named_keeps (holds_choice rules_keep initial_keeps)))
-
-  module_keeps : Keeps (a_module n) IsNarrowModule
-  module_keeps = holds_means module_of IsNarrowModule (λ v h. h.1.0) (holds_behind s.Module split (holds_row split (holds_anything (before upper s.Semicolon)) (λ name. holds_row split (holds_many split item_keeps) (λ _. holds_anything (behind s.EndModule (before (one (is_name name)) s.Semicolon))))))
-
-  modules_keep : Keeps (several (a_module n)) (Some_of IsNarrowModule)
-  modules_keep = holds_several split module_keeps
-
--- ---- what is listed of a text
-
-module _ (tree : Text) (given : Each IsNarrowModule tree.modules) where
-  narrow_rules : Each (λ (r : PlacedRule). IsNarrowRule r.rule) (all_rules tree)
-  narrow_rules = rules_each IsNarrowItem tree given IsNarrowGroup IsNarrowRule (λ gs h. h) (λ g h. h)
-
-  abbrev AreNarrow : List TermTree → Type 0
-  AreNarrow terms = All IsNarrow terms
-
-  narrow_contracta : Each AreNarrow (contracta tree)
-  narrow_contracta = each_append AreNarrow _ _
-      (each_map AreNarrow _ (all_rules tree) (each_weaker (λ (r : PlacedRule). IsNarrowRule r.rule) _ (λ r h. All-from_recursion IsNarrow _ (each_map IsNarrow term_of_part r.rule.parts h.1)) (all_rules tree) narrow_rules))
-      (each_map AreNarrow _ (all_initials tree) (initials_each IsNarrowItem tree given AreNarrow (λ place terms h. All-from_recursion IsNarrow terms h)))
-
-  narrow_patterns : Each IsNarrowPattern (all_patterns tree)
-  narrow_patterns = each_append IsNarrowPattern _ _
-      (each_map IsNarrowPattern _ (all_rules tree) (each_weaker (λ (r : PlacedRule). IsNarrowRule r.rule) _ (λ r h. h.0) (all_rules tree) narrow_rules))
-      (named_each IsNarrowItem tree given IsNarrowPattern (λ public name pattern h. h))
-
-  narrow_text : IsNarrowText tree
-  narrow_text = record { patterns = All-from_recursion IsNarrowPattern (all_patterns tree) narrow_patterns; terms = All-from_recursion AreNarrow (contracta tree) narrow_contracta }
-
-pub trees_are_narrow : (tree : Text) (l : List Tok) → AreTold false l → (several (a_module most_open)).whole l tree.modules → IsNarrowText tree
-trees_are_narrow tree l told w = narrow_text tree ((modules_keep most_open).of l tree.modules told w).each
+pub terms_narrow : (wide : Bool) (n : ℕ) → Holds (AreTold wide) (term (args n)) (λ t. wide ≡ false → IsNarrow t)
+terms_narrow wide n = narrow_when wide IsNarrow (term_keeps (args n) (args_keep n))

@@ -19,6 +19,7 @@ use Rattle.dactl_meaning.specs.declared.tree.NodeTree.TheOpen.{NodeTree-F}
 use Rattle.dactl_meaning.specs.declared.tree.NodeTree.TheFolds.{fold-NodeTree, fold-ArgTree, fold-roll-NodeTree, fold-roll-ArgTree, fold-roll-TermTree}
 use Rattle.dactl_meaning.specs.declared.tree.TermTree.{TermTree, roll-TermTree}
 use Rattle.dactl_meaning.specs.declared.tree.ArgTree.{ArgTree}
+use Rattle.dactl_meaning.specs.declared.tree.PatternTree.{PatternTree}
 use Rattle.dactl_meaning.specs.declared.tree.Part.{Part}
 use Rattle.dactl_meaning.specs.declared.tree.RuleTree.{RuleTree}
 use Rattle.dactl_meaning.specs.declared.tree.Group.{Group}
@@ -26,19 +27,20 @@ use Rattle.dactl_meaning.specs.declared.tree.Item.{Item}
 use Rattle.dactl_meaning.specs.declared.tree.Item.TheVariants as item
 use Rattle.dactl_meaning.specs.declared.tree.Module.{Module}
 use Rattle.dactl_meaning.specs.declared.tree.Text.{Text}
-use Rattle.dactl_terminals.specs.Parts.{Tok, Part_of, is, here, sign, behind, before, upper, lower, name_of, value_at, names}
-use Rattle.dactl_syntax.specs.Productions.{several, star_of, hashes_of, counted, mark, integer_of, letter, letter_of, sym_of, node, named_of, bare_of, body, term_of, term, arg_of, arg, args, pattern, part_term, part_redirect, part, rewrites_of, redirects_of, rewriting, redirecting, rule_of, rule, group_of, group, imports_of, imports, class, symbols_of, symbols, pattern_named_of, named, rules_of, rules, initial_of, initial, an_item, is_name, module_of, a_module}
-use Rattle.dactl_meaning.specs.Spelling.{is_counted, has_body, node_whole, arg_whole, term_whole, is_whole, contracta, IsNarrowText, IsSpelled}
+use Rattle.dactl_terminals.specs.Parts.{Tok, Part_of, is, here, sign, upper, lower, name_of, value_at}
+use Rattle.dactl_syntax.specs.Productions.{star_of, hashes_of, counted, mark, integer_of, letter, letter_of, sym_of, node, named_of, bare_of, body, term_of, term, arg_of, arg, args, part_term, part_redirect, part, rewrites_of, redirects_of, rewriting, redirecting, rule_of, rule}
+use Rattle.dactl_meaning.specs.Spelling.{is_counted, has_body, node_whole, arg_whole, term_whole, is_whole, contracta, all_patterns, IsNarrowText, IsSpelled}
 use Rattle.dactl_meaning.specs.Contractum.{term_of_part}
 use Rattle.dactl_meaning.specs.Declarations.{PlacedRule, Declaration, items_of, rules as all_rules, item_names, module_names, own_names, built_in_names, all_names, is_symbol, symbol_names}
 use Rattle.dactl_meaning.specs.Meaning.{PlacedInitial, all_initials, is_wide}
 use Rattle.dactl_syntax.specs.Answer.{most_open}
 use Rattle.dactl_syntax.specs.Laws.{Reads}
 use Rattle.dactl_syntax.proofs.TokenFacts.{upper_named}
-use Rattle.dactl_syntax.proofs.Holding.{AreTold, split_told, holds_anything, holds_behind, holds_before, Some_of, holds_listed, holds_several, holds_separated, each_append, each_weaker, each_map, each_flat, each_filter, each_numbered}
-use Rattle.dactl_syntax.proofs.Listed.{IsItem, module_items, initials_each, rules_each}
+use Rattle.dactl_syntax.proofs.Holding.{AreTold, split_told, holds_anything, holds_behind, holds_before, holds_both, Some_of, holds_listed, holds_separated, each_append, each_weaker, each_map, each_flat, each_filter, each_passes, each_numbered}
+use Rattle.dactl_syntax.proofs.Walk.{IsItem, IsModule, modules_hold}
+use Rattle.dactl_syntax.proofs.Listed.{module_items, named_each, initials_each, rules_each}
 use Rattle.dactl_syntax.proofs.Language.{language_read, modules_read}
-use Rattle.dactl_syntax.proofs.Narrow.{trees_are_narrow}
+use Rattle.dactl_syntax.proofs.Narrow.{IsNarrow, IsNarrowPattern, patterns_narrow, terms_narrow}
 
 module _ (wide : Bool) where
   abbrev Shows : {A : Type 0} → Part_of A → (A → Type 0) → Type 0
@@ -51,9 +53,6 @@ module _ (wide : Bool) where
 
   upper_shows : Shows upper IsUpperName
   upper_shows = holds_means name_of IsUpperName (λ t h. upper_named wide t.word (h.0.0.upper h.1)) (holds_one (is s.Upper))
-
-  names_show : Shows names (Some_of IsUpperName)
-  names_show = holds_separated s.Comma (split_told wide) upper_shows
 
   -- ---- terms
 
@@ -81,12 +80,8 @@ module _ (wide : Bool) where
   abbrev IsWhole : TermTree → Type 0
   IsWhole t = IsTrue (is_whole t)
 
-  args_whole : (given : List ArgTree) → Each IsWholeArg given → list_all (λ b. b) (map whole_arg given) ≡ true
-  args_whole [] h = refl
-  args_whole (a ∷ given) h = rw (h.0, args_whole given h.1) refl
-
   sym_whole : (name : Name) (given : List ArgTree) → Each IsWholeArg given → IsWholeNode (node_tree.Sym name given)
-  sym_whole name given h = ap whole_node (sym (rolls-Sym name given)) ∙ fold-roll-NodeTree Bool Bool Bool node_whole arg_whole term_whole (NodeTree-F.Sym name given) ∙ args_whole given h
+  sym_whole name given h = ap whole_node (sym (rolls-Sym name given)) ∙ fold-roll-NodeTree Bool Bool Bool node_whole arg_whole term_whole (NodeTree-F.Sym name given) ∙ each_passes (λ b. b) whole_arg given h
 
   integer_whole : (t : Tok) → IsWholeNode (integer_of t)
   integer_whole t = ap whole_node (sym (rolls-Integer (value_at true t.word) (here t))) ∙ fold-roll-NodeTree Bool Bool Bool node_whole arg_whole term_whole (NodeTree-F.Integer (value_at true t.word) (here t))
@@ -151,134 +146,114 @@ module _ (wide : Bool) where
   args_show zero = holds_barred (Each IsWholeArg)
   args_show (suc n) = holds_behind s.Open (split_told wide) (holds_before s.Close (split_told wide) (holds_many (split_told wide) (arg_shows (args n) (args_show n))))
 
-  -- ---- rules
+  -- ---- terms, patterns and rules
 
-  abbrev IsWholePart : Part → Type 0
-  IsWholePart p = IsWhole (term_of_part p)
+  -- it is whole, and in language 1 it is narrow
+  abbrev IsFineTerm : TermTree → Type 0
+  IsFineTerm t = IsWhole t × (wide ≡ false → IsNarrow t)
 
-  abbrev IsWholeRule : RuleTree → Type 0
-  IsWholeRule r = Each IsWholePart r.parts
+  abbrev IsFinePattern : PatternTree → Type 0
+  IsFinePattern t = wide ≡ false → IsNarrowPattern t
 
-  abbrev IsWholeGroup : Group → Type 0
-  IsWholeGroup g = Each IsWholeRule g.rules
+  abbrev IsFinePart : Part → Type 0
+  IsFinePart p = IsFineTerm (term_of_part p)
 
-  module _ (n : ℕ) where
-    plain_shows : Shows (means part_term (term (args n))) IsWholePart
-    plain_shows = holds_means part_term IsWholePart (λ t h. h) (term_shows (args n) (args_show n))
+  abbrev IsFineRule : RuleTree → Type 0
+  IsFineRule r = IsFinePattern r.pattern × Each IsFinePart r.parts
 
-    part_shows : Shows (part n) IsWholePart
-    part_shows = holds_choice (holds_means part_redirect IsWholePart (λ v h. h.1) (holds_row (split_told wide) (holds_anything lower) (λ _. holds_behind s.Becomes (split_told wide) (term_shows (args n) (args_show n))))) plain_shows
-
-    -- the parts of a right side are whole
-    abbrev IsWholeSide : Bool × List Part → Type 0
-    IsWholeSide v = Each IsWholePart v.1
-
-    rewriting_shows : Shows (rewriting n) IsWholeSide
-    rewriting_shows = holds_means rewrites_of IsWholeSide (λ ps h. h.each) (holds_behind s.Rewrites (split_told wide) (holds_listed (split_told wide) plain_shows (holds_behind s.Comma (split_told wide) part_shows)))
-
-    redirecting_shows : Shows (redirecting n) IsWholeSide
-    redirecting_shows = holds_means redirects_of IsWholeSide (λ ps h. h.each) (holds_behind s.Arrow (split_told wide) (holds_separated s.Comma (split_told wide) part_shows))
-
-    rule_shows : Shows (rule n) IsWholeRule
-    rule_shows = holds_means rule_of IsWholeRule (λ v h. h.1) (holds_placed (λ t. t.place)
-        (holds_choice (holds_row (split_told wide) (holds_anything (pattern n)) (λ _. rewriting_shows)) (holds_row (split_told wide) (holds_anything (pattern n)) (λ _. redirecting_shows))))
-
-    group_shows : Shows (group n) IsWholeGroup
-    group_shows = holds_means group_of IsWholeGroup (λ rs h. h.each) (holds_before s.Semicolon (split_told wide) (holds_separated s.Bar (split_told wide) rule_shows))
-
-  -- ---- items and modules
-
-  -- symbols are upper names, an INITIAL has a term, and terms are whole
-  abbrev pub IsSpelledItem : Item → Type 0
-  IsSpelledItem (item.Imports imported) = Unit {0}
-  IsSpelledItem (item.Symbols seen public declared) = Each IsUpperName declared
-  IsSpelledItem (item.Named public name pattern) = Unit {0}
-  IsSpelledItem (item.Rules groups) = Each IsWholeGroup groups
-  IsSpelledItem (item.Initial place terms) = Some_of IsWhole terms
-
-  abbrev pub IsSpelledModule : Module → Type 0
-  IsSpelledModule m = Each IsSpelledItem m.items
-
-  symbols_show : Shows symbols IsSpelledItem
-  symbols_show = holds_means symbols_of IsSpelledItem (λ v h. h.1.1.each) (holds_behind s.Symbol (split_told wide) (holds_row (split_told wide) (holds_anything class) (λ _. holds_row (split_told wide) (holds_anything (maybe (behind s.Public class))) (λ _. holds_before s.Semicolon (split_told wide) names_show))))
+  -- the parts of a right side
+  abbrev AreFine : Bool × List Part → Type 0
+  AreFine v = Each IsFinePart v.1
 
   module _ (n : ℕ) where
-    rules_show : Shows (rules n) IsSpelledItem
-    rules_show = holds_means rules_of IsSpelledItem (λ gs h. h.each) (holds_behind s.Rule (split_told wide) (holds_several (split_told wide) (group_shows n)))
+    fine_terms : Shows (term (args n)) IsFineTerm
+    fine_terms = holds_both IsWhole (λ t. wide ≡ false → IsNarrow t) (term_shows (args n) (args_show n)) (terms_narrow wide n)
 
-    initial_shows : Shows (initial n) IsSpelledItem
-    initial_shows = holds_means initial_of IsSpelledItem (λ v h. h.1) (holds_row (split_told wide) (holds_one (is s.Initial)) (λ _. holds_behind s.Rewrites (split_told wide) (holds_before s.Semicolon (split_told wide) (holds_separated s.Comma (split_told wide) (term_shows (args n) (args_show n))))))
+    plain_shows : Shows (means part_term (term (args n))) IsFinePart
+    plain_shows = holds_means part_term IsFinePart (λ t h. h) fine_terms
 
-    named_shows : Shows (named n) IsSpelledItem
-    named_shows = holds_means pattern_named_of IsSpelledItem (λ v h. tt) (holds_anything _)
+    part_shows : Shows (part n) IsFinePart
+    part_shows = holds_choice (holds_means part_redirect IsFinePart (λ v h. h.1) (holds_row (split_told wide) (holds_anything lower) (λ _. holds_behind s.Becomes (split_told wide) fine_terms))) plain_shows
 
-    imports_show : Shows imports IsSpelledItem
-    imports_show = holds_means imports_of IsSpelledItem (λ v h. tt) (holds_anything _)
+    rewriting_shows : Shows (rewriting n) AreFine
+    rewriting_shows = holds_means rewrites_of AreFine (λ ps h. h.each) (holds_behind s.Rewrites (split_told wide) (holds_listed (split_told wide) plain_shows (holds_behind s.Comma (split_told wide) part_shows)))
 
-    item_shows : Shows (an_item n) IsSpelledItem
-    item_shows = holds_choice imports_show (holds_choice symbols_show (holds_choice named_shows (holds_choice rules_show initial_shows)))
+    redirecting_shows : Shows (redirecting n) AreFine
+    redirecting_shows = holds_means redirects_of AreFine (λ ps h. h.each) (holds_behind s.Arrow (split_told wide) (holds_separated s.Comma (split_told wide) part_shows))
 
-    module_shows : Shows (a_module n) IsSpelledModule
-    module_shows = holds_means module_of IsSpelledModule (λ v h. h.1.0) (holds_behind s.Module (split_told wide) (holds_row (split_told wide) (holds_anything (before upper s.Semicolon)) (λ name. holds_row (split_told wide) (holds_many (split_told wide) item_shows) (λ _. holds_anything (behind s.EndModule (before (one (is_name name)) s.Semicolon))))))
+    rule_shows : Shows (rule n) IsFineRule
+    rule_shows = holds_means rule_of IsFineRule (λ v h. (h.0, h.1)) (holds_placed (λ t. t.place)
+        (holds_choice (holds_row (split_told wide) (patterns_narrow wide n) (λ _. rewriting_shows)) (holds_row (split_told wide) (patterns_narrow wide n) (λ _. redirecting_shows))))
 
-    pub text_shows : Shows (several (a_module n)) (Some_of IsSpelledModule)
-    text_shows = holds_several (split_told wide) module_shows
+  -- symbols are upper names, an INITIAL has a term, and rules, patterns and terms are fine
+  abbrev IsFine : Item → Type 0
+  IsFine t = IsItem IsFineRule IsFinePattern IsFineTerm IsUpperName t
+
+  abbrev IsFineModule : Module → Type 0
+  IsFineModule m = IsModule IsFineRule IsFinePattern IsFineTerm IsUpperName m
 
 -- ---- what is listed of a text
 
-module _ (wide : Bool) (tree : Text) (given : Each (IsSpelledModule wide) tree.modules) where
+module _ (wide : Bool) (tree : Text) (given : Each (IsFineModule wide) tree.modules) where
   -- ---- symbols
 
   abbrev IsUpperSymbol : Declaration → Type 0
   IsUpperSymbol d = is_symbol d.entity ≡ true → IsUpperName wide d.name
 
-  names_of_item : (m i : ℕ) (t : Item) → IsSpelledItem wide t → Each IsUpperSymbol (item_names m i t)
-  names_of_item m i (item.Imports imported) h = tt
+  names_of_item : (m i : ℕ) (t : Item) → IsFine wide t → Each IsUpperSymbol (item_names m i t)
   names_of_item m i (item.Symbols seen public declared) h = each_map IsUpperSymbol _ declared (each_weaker (IsUpperName wide) _ (λ n up k. up) declared h)
   names_of_item m i (item.Named public name pattern) h = (λ k. absurd cc, tt)
-  names_of_item m i (item.Rules groups) h = tt
-  names_of_item m i (item.Initial place terms) h = tt
+  names_of_item m i _ h = tt
 
-  names_of_module : (m : ℕ × Module) → IsSpelledModule wide m.1 → Each IsUpperSymbol (module_names m)
-  names_of_module m h = (λ k. absurd cc, each_flat IsUpperSymbol _ (items_of m) (each_weaker (IsItem (IsSpelledItem wide)) _ (λ i k. names_of_item i.owner i.number i.item k) (items_of m) (module_items (IsSpelledItem wide) m h)))
+  names_of_module : (m : ℕ × Module) → IsFineModule wide m.1 → Each IsUpperSymbol (module_names m)
+  names_of_module m h = (λ k. absurd cc, each_flat IsUpperSymbol _ (items_of m) (each_weaker _ _ (λ i k. names_of_item i.owner i.number i.item k) (items_of m) (module_items (IsFineRule wide) (IsFinePattern wide) (IsFineTerm wide) (IsUpperName wide) m h)))
 
   symbols_upper : Each IsUpperSymbol built_in_names → Each (λ d. IsUpperName wide d.name) (symbol_names tree)
   symbols_upper built = each_filter (λ d. IsUpperName wide d.name) (λ d. is_symbol d.entity) (all_names tree)
       (each_append IsUpperSymbol built_in_names (own_names tree) built
-      (each_flat IsUpperSymbol module_names (enumerate_from 0 tree.modules) (each_weaker (λ (m : ℕ × Module). IsSpelledModule wide m.1) _ names_of_module (enumerate_from 0 tree.modules) (each_numbered (IsSpelledModule wide) 0 tree.modules given))))
+      (each_flat IsUpperSymbol module_names (enumerate_from 0 tree.modules) (each_weaker (λ (m : ℕ × Module). IsFineModule wide m.1) _ names_of_module (enumerate_from 0 tree.modules) (each_numbered (IsFineModule wide) 0 tree.modules given))))
 
-  -- ---- rules and INITIALs
+  -- ---- rules, patterns and INITIALs
 
-  initials_spelled : Each (λ (i : PlacedInitial). Some_of (IsWhole wide) i.terms) (all_initials tree)
-  initials_spelled = initials_each (IsSpelledItem wide) tree given (Some_of (IsWhole wide)) (λ place terms h. h)
+  initials_fine : Each (λ (i : PlacedInitial). Some_of (IsFineTerm wide) i.terms) (all_initials tree)
+  initials_fine = initials_each (IsFineRule wide) (IsFinePattern wide) (IsFineTerm wide) (IsUpperName wide) tree given
 
-  rules_spelled : Each (λ (r : PlacedRule). IsWholeRule wide r.rule) (all_rules tree)
-  rules_spelled = rules_each (IsSpelledItem wide) tree given (IsWholeGroup wide) (IsWholeRule wide) (λ gs h. h) (λ g h. h)
+  rules_fine : Each (λ (r : PlacedRule). IsFineRule wide r.rule) (all_rules tree)
+  rules_fine = rules_each (IsFineRule wide) (IsFinePattern wide) (IsFineTerm wide) (IsUpperName wide) tree given
 
-  abbrev AreWhole : List TermTree → Type 0
-  AreWhole terms = All (IsWhole wide) terms
+  -- what holds of each term holds of the terms of each contractum
+  contracta_all : (X : TermTree → Type 0) → ((t : TermTree) → IsFineTerm wide t → X t) → All (λ terms. All X terms) (contracta tree)
+  contracta_all X f = All-from_recursion _ (contracta tree) (each_append (λ terms. All X terms) _ _
+      (each_map (λ terms. All X terms) _ (all_rules tree) (each_weaker (λ (r : PlacedRule). IsFineRule wide r.rule) _ (λ r h. All-from_recursion X _ (each_map X term_of_part r.rule.parts (each_weaker (IsFinePart wide) _ (λ p k. f (term_of_part p) k) r.rule.parts h.1))) (all_rules tree) rules_fine))
+      (each_map (λ terms. All X terms) _ (all_initials tree) (each_weaker (λ (i : PlacedInitial). Some_of (IsFineTerm wide) i.terms) _ (λ i h. All-from_recursion X i.terms (each_weaker (IsFineTerm wide) X f i.terms h.each)) (all_initials tree) initials_fine)))
 
-  contracta_whole : Each AreWhole (contracta tree)
-  contracta_whole = each_append AreWhole _ _
-      (each_map AreWhole _ (all_rules tree) (each_weaker (λ (r : PlacedRule). IsWholeRule wide r.rule) _ (λ r h. All-from_recursion (IsWhole wide) _ (each_map (IsWhole wide) term_of_part r.rule.parts h)) (all_rules tree) rules_spelled))
-      (each_map AreWhole _ (all_initials tree) (each_weaker (λ (i : PlacedInitial). Some_of (IsWhole wide) i.terms) _ (λ i h. All-from_recursion (IsWhole wide) i.terms h.each) (all_initials tree) initials_spelled))
+  patterns_fine : Each (IsFinePattern wide) (all_patterns tree)
+  patterns_fine = each_append (IsFinePattern wide) _ _
+      (each_map (IsFinePattern wide) _ (all_rules tree) (each_weaker (λ (r : PlacedRule). IsFineRule wide r.rule) _ (λ r h. h.0) (all_rules tree) rules_fine))
+      (named_each (IsFineRule wide) (IsFinePattern wide) (IsFineTerm wide) (IsUpperName wide) tree given)
+
+  narrow_text : wide ≡ false → IsNarrowText tree
+  narrow_text e = record {
+    patterns = All-from_recursion _ (all_patterns tree) (each_weaker (IsFinePattern wide) _ (λ t h. h e) (all_patterns tree) patterns_fine);
+    terms = contracta_all IsNarrow (λ t h. h.1 e);
+  }
 
 built_in_upper : (wide : Bool) → Each (λ d. is_symbol d.entity ≡ true → IsUpperName wide d.name) built_in_names
 unfolding is_keyword keywords
 built_in_upper true = (λ k. refl, (λ k. refl, (λ k. refl, (λ k. refl, (λ k. refl, (λ k. refl, (λ k. refl, (λ k. refl, tt))))))))
 built_in_upper false = (λ k. refl, (λ k. refl, (λ k. refl, (λ k. refl, (λ k. refl, (λ k. refl, (λ k. refl, (λ k. refl, tt))))))))
 
-spelled_of : (wide : Bool) (tree : Text) → is_wide tree ≡ wide → Each (IsSpelledModule wide) tree.modules → (wide ≡ false → IsNarrowText tree) → IsSpelled tree
-spelled_of wide tree e given narrow = record {
+spelled_of : (wide : Bool) (tree : Text) → is_wide tree ≡ wide → Each (IsFineModule wide) tree.modules → IsSpelled tree
+spelled_of wide tree e given = record {
   names = All-from_recursion _ (symbol_names tree) (subst (λ (w : Bool). Each (λ d. IsUpperName w d.name) (symbol_names tree)) (sym e) (symbols_upper wide tree given (built_in_upper wide)));
-  initials = All-from_recursion _ (all_initials tree) (each_weaker (λ (i : PlacedInitial). Some_of (IsWhole wide) i.terms) _ (λ i h. h.some) (all_initials tree) (initials_spelled wide tree given));
-  whole = All-from_recursion _ (contracta tree) (contracta_whole wide tree given);
-  narrow = λ h. narrow (sym e ∙ h);
+  initials = All-from_recursion _ (all_initials tree) (each_weaker (λ (i : PlacedInitial). Some_of (IsFineTerm wide) i.terms) _ (λ i h. h.some) (all_initials tree) (initials_fine wide tree given));
+  whole = contracta_all wide tree given (IsWhole wide) (λ t h. h.0);
+  narrow = λ h. narrow_text wide tree given (sym e ∙ h);
 }
 
 pub trees_are_spelled : (bytes : List ℕ) (tree : Text) → Reads bytes tree → IsSpelled tree
 trees_are_spelled bytes tree r =
     let wide : Bool = has_header bytes in
     let m = modules_read bytes tree r in
-    spelled_of wide tree (language_read bytes tree r) ((text_shows wide most_open).of m.tokens tree.modules m.told m.derives).each
-    (λ e. trees_are_narrow tree m.tokens (subst (λ (w : Bool). AreTold w m.tokens) e m.told) m.derives)
+    let shows = modules_hold (IsFineRule wide) (IsFinePattern wide) (IsFineTerm wide) (IsUpperName wide) (AreTold wide) (split_told wide) most_open (rule_shows wide most_open) (patterns_narrow wide most_open) (fine_terms wide most_open) (upper_shows wide) in
+    spelled_of wide tree (language_read bytes tree r) (shows.of m.tokens tree.modules m.told m.derives).each
