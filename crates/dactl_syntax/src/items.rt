@@ -15,16 +15,12 @@ use dactl_grammar::fault::{Fault, ReadError};
 use dactl_meaning::tree::{Item, TermTree};
 use dactl_model::program::Class;
 use dactl_terminals::names::{names, upper};
-use dactl_terminals::token::{Sort, Terminal, next_is, one, place_of};
+use dactl_terminals::token::{Read, Sort, Terminal, next_is, one, place_of};
 use sqlite_items::Items;
 use std::alloc::Global;
 
 #[tactic(auto, unfolding(crate::specs::Reading::imports_at))]
-fn imports<'a>(
-    alloc: Global,
-    text: &[u8],
-    tokens: &'a [Terminal],
-) -> Result<(Item, &'a [Terminal]), ReadError>
+fn imports<'a>(alloc: Global, text: &[u8], tokens: &'a [Terminal]) -> Read<'a, Item>
     ensures { Gives (λ x. (x.0, toks text.now x.1.now)) result
         (spec.imports_at (toks text.now tokens.now)) }
 {
@@ -54,10 +50,7 @@ fn is_class(sort: Sort) -> bool
 }
 
 #[tactic(auto, unfolding(crate::specs::Reading::class_reads))]
-fn class<'a>(
-    text: &[u8],
-    tokens: &'a [Terminal],
-) -> Result<((Class, Place), &'a [Terminal]), ReadError>
+fn class<'a>(text: &[u8], tokens: &'a [Terminal]) -> Read<'a, (Class, Place)>
     ensures { Gives (λ x. ((x.0.0, x.0.1), toks text.now x.1.now)) result
         (spec.class_reads (toks text.now tokens.now)) }
 {
@@ -74,10 +67,7 @@ fn class<'a>(
 }
 
 #[tactic(auto, unfolding(crate::specs::Reading::public_class_at))]
-fn public_class<'a>(
-    text: &[u8],
-    tokens: &'a [Terminal],
-) -> Result<(Option<(Class, Place)>, &'a [Terminal]), ReadError>
+fn public_class<'a>(text: &[u8], tokens: &'a [Terminal]) -> Read<'a, Option<(Class, Place)>>
     ensures { Gives (λ x. (x.0, toks text.now x.1.now)) result
         (spec.public_class_at (toks text.now tokens.now)) }
 {
@@ -91,11 +81,7 @@ fn public_class<'a>(
 }
 
 #[tactic(auto, unfolding(crate::specs::Reading::symbols_at, crate::specs::Reading::public_class_at))]
-fn symbols<'a>(
-    alloc: Global,
-    text: &[u8],
-    tokens: &'a [Terminal],
-) -> Result<(Item, &'a [Terminal]), ReadError>
+fn symbols<'a>(alloc: Global, text: &[u8], tokens: &'a [Terminal]) -> Read<'a, Item>
     ensures { Gives (λ x. (x.0, toks text.now x.1.now)) result
         (spec.symbols_at (toks text.now tokens.now)) }
 {
@@ -115,7 +101,7 @@ fn symbols<'a>(
 }
 
 #[tactic(auto, unfolding(crate::specs::Reading::public_at))]
-fn public<'a>(text: &[u8], tokens: &'a [Terminal]) -> Result<(bool, &'a [Terminal]), ReadError>
+fn public<'a>(text: &[u8], tokens: &'a [Terminal]) -> Read<'a, bool>
     ensures { Gives (λ x. (x.0, toks text.now x.1.now)) result
         (spec.public_at (toks text.now tokens.now)) }
 {
@@ -128,12 +114,7 @@ fn public<'a>(text: &[u8], tokens: &'a [Terminal]) -> Result<(bool, &'a [Termina
 }
 
 #[tactic(auto, unfolding(crate::specs::Reading::named_at))]
-fn named<'a>(
-    alloc: Global,
-    text: &[u8],
-    tokens: &'a [Terminal],
-    room: u32,
-) -> Result<(Item, &'a [Terminal]), ReadError>
+fn named<'a>(alloc: Global, text: &[u8], tokens: &'a [Terminal], room: u32) -> Read<'a, Item>
     ensures { Gives (λ x. (x.0, toks text.now x.1.now)) result
         (spec.named_at room (toks text.now tokens.now)) }
 {
@@ -154,12 +135,7 @@ fn named<'a>(
 }
 
 #[tactic(auto, unfolding(crate::specs::Reading::rules_at))]
-fn rules<'a>(
-    alloc: Global,
-    text: &[u8],
-    tokens: &'a [Terminal],
-    room: u32,
-) -> Result<(Item, &'a [Terminal]), ReadError>
+fn rules<'a>(alloc: Global, text: &[u8], tokens: &'a [Terminal], room: u32) -> Read<'a, Item>
     ensures { Gives (λ x. (x.0, toks text.now x.1.now)) result
         (spec.rules_at room (toks text.now tokens.now)) }
 {
@@ -174,7 +150,7 @@ fn comma_term<'a>(
     text: &[u8],
     tokens: &'a [Terminal],
     room: u32,
-) -> Result<(TermTree, &'a [Terminal]), ReadError>
+) -> Read<'a, TermTree>
     ensures { Gives (λ x. (x.0, toks text.now x.1.now)) result
         (spec.comma_term_at room (toks text.now tokens.now)) }
 {
@@ -188,7 +164,7 @@ fn terms<'a>(
     text: &[u8],
     tokens: &'a [Terminal],
     room: u32,
-) -> Result<(Items<TermTree>, &'a [Terminal]), ReadError>
+) -> Read<'a, Items<TermTree>>
     ensures { Gives (λ x. (x.0, toks text.now x.1.now)) result
         (spec.terms_at room (toks text.now tokens.now)) }
 {
@@ -205,12 +181,7 @@ fn terms<'a>(
 }
 
 #[tactic(auto, unfolding(crate::specs::Reading::initial_at))]
-fn initial<'a>(
-    alloc: Global,
-    text: &[u8],
-    tokens: &'a [Terminal],
-    room: u32,
-) -> Result<(Item, &'a [Terminal]), ReadError>
+fn initial<'a>(alloc: Global, text: &[u8], tokens: &'a [Terminal], room: u32) -> Read<'a, Item>
     ensures { Gives (λ x. (x.0, toks text.now x.1.now)) result
         (spec.initial_at room (toks text.now tokens.now)) }
 {
@@ -234,12 +205,7 @@ fn initial<'a>(
 /// `Fault` with `Unexpected` at the first token with which no item goes on, or with `TooDeep` at
 /// the first bracket past `room`, and `Memory` where memory is wanting.
 #[tactic(auto, unfolding(crate::specs::Reading::item_at))]
-pub fn item<'a>(
-    alloc: Global,
-    text: &[u8],
-    tokens: &'a [Terminal],
-    room: u32,
-) -> Result<(Item, &'a [Terminal]), ReadError>
+pub fn item<'a>(alloc: Global, text: &[u8], tokens: &'a [Terminal], room: u32) -> Read<'a, Item>
     ensures { Gives (λ x. (x.0, toks text.now x.1.now)) result
         (spec.item_at room (toks text.now tokens.now)) }
 {

@@ -13,7 +13,7 @@ use crate::items::item;
 use dactl_grammar::fault::{Fault, ReadError};
 use dactl_meaning::tree::{Item, Module, Name};
 use dactl_terminals::names::upper;
-use dactl_terminals::token::{Sort, Terminal, next_is, one, same_sort, word};
+use dactl_terminals::token::{Read, Sort, Terminal, next_is, one, same_sort, word};
 use sqlite_items::Items;
 use std::alloc::Global;
 
@@ -30,12 +30,7 @@ fn starts_item(tokens: &[Terminal]) -> bool
 }
 
 #[tactic(auto, unfolding(crate::specs::Reading::items_at))]
-fn items<'a>(
-    alloc: Global,
-    text: &[u8],
-    tokens: &'a [Terminal],
-    room: u32,
-) -> Result<(Items<Item>, &'a [Terminal]), ReadError>
+fn items<'a>(alloc: Global, text: &[u8], tokens: &'a [Terminal], room: u32) -> Read<'a, Items<Item>>
     ensures { Gives (λ x. (x.0, toks text.now x.1.now)) result
         (spec.items_at room (toks text.now tokens.now)) }
 {
@@ -56,11 +51,7 @@ fn is_name(text: &[u8], name: &Name, token: Terminal) -> bool
     same_sort(Sort::Upper, token.sort) && word(text, token) == name.text.as_slice()
 }
 
-fn same_name<'a>(
-    text: &[u8],
-    name: &Name,
-    tokens: &'a [Terminal],
-) -> Result<(Terminal, &'a [Terminal]), ReadError>
+fn same_name<'a>(text: &[u8], name: &Name, tokens: &'a [Terminal]) -> Read<'a, Terminal>
     ensures { Gives (λ x. (seen text.now x.0, toks text.now x.1.now)) result
         (read_one (is_name name.now) (toks text.now tokens.now)) }
 {
@@ -77,12 +68,7 @@ fn same_name<'a>(
 }
 
 #[tactic(auto, unfolding(crate::specs::Reading::module_at))]
-fn module<'a>(
-    alloc: Global,
-    text: &[u8],
-    tokens: &'a [Terminal],
-    room: u32,
-) -> Result<(Module, &'a [Terminal]), ReadError>
+fn module<'a>(alloc: Global, text: &[u8], tokens: &'a [Terminal], room: u32) -> Read<'a, Module>
     ensures { Gives (λ x. (x.0, toks text.now x.1.now)) result
         (spec.module_at room (toks text.now tokens.now)) }
 {
@@ -108,7 +94,7 @@ pub fn modules<'a>(
     text: &[u8],
     tokens: &'a [Terminal],
     room: u32,
-) -> Result<(Items<Module>, &'a [Terminal]), ReadError>
+) -> Read<'a, Items<Module>>
     ensures { Gives (λ x. (x.0, toks text.now x.1.now)) result
         (spec.modules_at room (toks text.now tokens.now)) }
 {

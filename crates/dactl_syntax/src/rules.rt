@@ -10,10 +10,9 @@ ghost use Rattle.dactl_terminals.specs.Seen.{toks};
 use crate::patterns::{pattern, starts_piece};
 use crate::terms::term;
 use dactl_base::refusal::Place;
-use dactl_grammar::fault::ReadError;
 use dactl_meaning::tree::{Group, Part, RuleTree};
 use dactl_terminals::names::lower;
-use dactl_terminals::token::{Sort, Terminal, next_is, one, same_sort};
+use dactl_terminals::token::{Read, Sort, Terminal, next_is, one, same_sort};
 use sqlite_items::Items;
 use std::alloc::Global;
 
@@ -31,12 +30,7 @@ fn redirects(tokens: &[Terminal]) -> bool
 }
 
 #[tactic(auto, unfolding(crate::specs::Reading::part_at))]
-fn part<'a>(
-    alloc: Global,
-    text: &[u8],
-    tokens: &'a [Terminal],
-    room: u32,
-) -> Result<(Part, &'a [Terminal]), ReadError>
+fn part<'a>(alloc: Global, text: &[u8], tokens: &'a [Terminal], room: u32) -> Read<'a, Part>
     ensures { Gives (λ x. (x.0, toks text.now x.1.now)) result
         (spec.part_at room (toks text.now tokens.now)) }
 {
@@ -52,12 +46,7 @@ fn part<'a>(
 }
 
 #[tactic(auto, unfolding(crate::specs::Reading::plain_at))]
-fn plain<'a>(
-    alloc: Global,
-    text: &[u8],
-    tokens: &'a [Terminal],
-    room: u32,
-) -> Result<(Part, &'a [Terminal]), ReadError>
+fn plain<'a>(alloc: Global, text: &[u8], tokens: &'a [Terminal], room: u32) -> Read<'a, Part>
     ensures { Gives (λ x. (x.0, toks text.now x.1.now)) result
         (spec.plain_at room (toks text.now tokens.now)) }
 {
@@ -66,12 +55,7 @@ fn plain<'a>(
 }
 
 #[tactic(auto, unfolding(crate::specs::Reading::comma_part_at))]
-fn comma_part<'a>(
-    alloc: Global,
-    text: &[u8],
-    tokens: &'a [Terminal],
-    room: u32,
-) -> Result<(Part, &'a [Terminal]), ReadError>
+fn comma_part<'a>(alloc: Global, text: &[u8], tokens: &'a [Terminal], room: u32) -> Read<'a, Part>
     ensures { Gives (λ x. (x.0, toks text.now x.1.now)) result
         (spec.comma_part_at room (toks text.now tokens.now)) }
 {
@@ -85,7 +69,7 @@ fn plain_parts<'a>(
     text: &[u8],
     tokens: &'a [Terminal],
     room: u32,
-) -> Result<(Items<Part>, &'a [Terminal]), ReadError>
+) -> Read<'a, Items<Part>>
     ensures { Gives (λ x. (x.0, toks text.now x.1.now)) result
         (spec.plain_parts_at room (toks text.now tokens.now)) }
 {
@@ -102,12 +86,7 @@ fn plain_parts<'a>(
 }
 
 #[tactic(auto, unfolding(crate::specs::Reading::parts_at))]
-fn parts<'a>(
-    alloc: Global,
-    text: &[u8],
-    tokens: &'a [Terminal],
-    room: u32,
-) -> Result<(Items<Part>, &'a [Terminal]), ReadError>
+fn parts<'a>(alloc: Global, text: &[u8], tokens: &'a [Terminal], room: u32) -> Read<'a, Items<Part>>
     ensures { Gives (λ x. (x.0, toks text.now x.1.now)) result
         (spec.parts_at room (toks text.now tokens.now)) }
 {
@@ -130,7 +109,7 @@ fn right_side<'a>(
     text: &[u8],
     tokens: &'a [Terminal],
     room: u32,
-) -> Result<((bool, Items<Part>), &'a [Terminal]), ReadError>
+) -> Read<'a, (bool, Items<Part>)>
     ensures { Gives (λ x. ((x.0.0, x.0.1), toks text.now x.1.now)) result
         (spec.right_side_at room (toks text.now tokens.now)) }
 {
@@ -156,12 +135,7 @@ fn first_byte(tokens: &[Terminal]) -> u32
 }
 
 #[tactic(auto, unfolding(crate::specs::Reading::rule_at))]
-fn rule<'a>(
-    alloc: Global,
-    text: &[u8],
-    tokens: &'a [Terminal],
-    room: u32,
-) -> Result<(RuleTree, &'a [Terminal]), ReadError>
+fn rule<'a>(alloc: Global, text: &[u8], tokens: &'a [Terminal], room: u32) -> Read<'a, RuleTree>
     ensures { Gives (λ x. (x.0, toks text.now x.1.now)) result
         (spec.rule_at room (toks text.now tokens.now)) }
 {
@@ -180,12 +154,7 @@ fn rule<'a>(
 }
 
 #[tactic(auto, unfolding(crate::specs::Reading::bar_rule_at))]
-fn bar_rule<'a>(
-    alloc: Global,
-    text: &[u8],
-    tokens: &'a [Terminal],
-    room: u32,
-) -> Result<(RuleTree, &'a [Terminal]), ReadError>
+fn bar_rule<'a>(alloc: Global, text: &[u8], tokens: &'a [Terminal], room: u32) -> Read<'a, RuleTree>
     ensures { Gives (λ x. (x.0, toks text.now x.1.now)) result
         (spec.bar_rule_at room (toks text.now tokens.now)) }
 {
@@ -199,7 +168,7 @@ fn rule_list<'a>(
     text: &[u8],
     tokens: &'a [Terminal],
     room: u32,
-) -> Result<(Items<RuleTree>, &'a [Terminal]), ReadError>
+) -> Read<'a, Items<RuleTree>>
     ensures { Gives (λ x. (x.0, toks text.now x.1.now)) result
         (spec.rule_list_at room (toks text.now tokens.now)) }
 {
@@ -216,12 +185,7 @@ fn rule_list<'a>(
 }
 
 #[tactic(auto, unfolding(crate::specs::Reading::group_at))]
-fn group<'a>(
-    alloc: Global,
-    text: &[u8],
-    tokens: &'a [Terminal],
-    room: u32,
-) -> Result<(Group, &'a [Terminal]), ReadError>
+fn group<'a>(alloc: Global, text: &[u8], tokens: &'a [Terminal], room: u32) -> Read<'a, Group>
     ensures { Gives (λ x. (x.0, toks text.now x.1.now)) result
         (spec.group_at room (toks text.now tokens.now)) }
 {
@@ -242,7 +206,7 @@ pub fn groups<'a>(
     text: &[u8],
     tokens: &'a [Terminal],
     room: u32,
-) -> Result<(Items<Group>, &'a [Terminal]), ReadError>
+) -> Read<'a, Items<Group>>
     ensures { Gives (λ x. (x.0, toks text.now x.1.now)) result
         (spec.groups_at room (toks text.now tokens.now)) }
 {

@@ -5,8 +5,7 @@ ghost use Rattle.dactl_grammar.specs.Giving.{Gives};
 ghost use Rattle.dactl_terminals.specs.Reads.{upper_at, lower_at, comma_upper_at, names_at};
 ghost use Rattle.dactl_terminals.specs.Seen.{toks};
 
-use crate::token::{Sort, Terminal, name_at, next_is, one};
-use dactl_grammar::fault::ReadError;
+use crate::token::{Read, Sort, Terminal, name_at, next_is, one};
 use dactl_meaning::tree::Name;
 use sqlite_items::Items;
 use std::alloc::Global;
@@ -18,11 +17,7 @@ use std::alloc::Global;
 /// `Fault` where another token comes next, as `one` has it, and `Memory` where memory for the name
 /// is wanting.
 #[tactic(auto, unfolding(crate::specs::Reads::upper_at))]
-pub fn upper<'a>(
-    alloc: Global,
-    text: &[u8],
-    tokens: &'a [Terminal],
-) -> Result<(Name, &'a [Terminal]), ReadError>
+pub fn upper<'a>(alloc: Global, text: &[u8], tokens: &'a [Terminal]) -> Read<'a, Name>
     ensures { Gives (λ x. (x.0, toks text.now x.1.now)) result
         (upper_at (toks text.now tokens.now)) }
 {
@@ -37,11 +32,7 @@ pub fn upper<'a>(
 /// `Fault` where another token comes next, as `one` has it, and `Memory` where memory for the name
 /// is wanting.
 #[tactic(auto, unfolding(crate::specs::Reads::lower_at))]
-pub fn lower<'a>(
-    alloc: Global,
-    text: &[u8],
-    tokens: &'a [Terminal],
-) -> Result<(Name, &'a [Terminal]), ReadError>
+pub fn lower<'a>(alloc: Global, text: &[u8], tokens: &'a [Terminal]) -> Read<'a, Name>
     ensures { Gives (λ x. (x.0, toks text.now x.1.now)) result
         (lower_at (toks text.now tokens.now)) }
 {
@@ -50,11 +41,7 @@ pub fn lower<'a>(
 }
 
 #[tactic(auto, unfolding(crate::specs::Reads::comma_upper_at))]
-fn comma_upper<'a>(
-    alloc: Global,
-    text: &[u8],
-    tokens: &'a [Terminal],
-) -> Result<(Name, &'a [Terminal]), ReadError>
+fn comma_upper<'a>(alloc: Global, text: &[u8], tokens: &'a [Terminal]) -> Read<'a, Name>
     ensures { Gives (λ x. (x.0, toks text.now x.1.now)) result
         (comma_upper_at (toks text.now tokens.now)) }
 {
@@ -69,11 +56,7 @@ fn comma_upper<'a>(
 /// `Fault` where no upper name comes first or behind a `,`, at the token there, and `Memory` where
 /// memory for a name or for the list is wanting.
 #[tactic(auto, unfolding(crate::specs::Reads::names_at))]
-pub fn names<'a>(
-    alloc: Global,
-    text: &[u8],
-    tokens: &'a [Terminal],
-) -> Result<(Items<Name>, &'a [Terminal]), ReadError>
+pub fn names<'a>(alloc: Global, text: &[u8], tokens: &'a [Terminal]) -> Read<'a, Items<Name>>
     ensures { Gives (λ x. (x.0, toks text.now x.1.now)) result
         (names_at (toks text.now tokens.now)) }
 {

@@ -67,6 +67,9 @@ pub struct Terminal {
     pub to: u32,
 }
 
+/// A part that was read, with the tokens behind it.
+pub type Read<'a, T> = Result<(T, &'a [Terminal]), ReadError>;
+
 /// Whether two sorts are the same.
 #[tactic(auto, unfolding(crate::specs::Sort::same_sort))]
 pub fn same_sort(a: Sort, b: Sort) -> bool
@@ -139,11 +142,7 @@ pub fn next_is(tokens: &[Terminal], sort: Sort) -> bool
 ///
 /// `Fault` with `Unexpected` at the next token where it is of another sort, and at the end of the
 /// tokens where none is left. Memory is never wanting.
-pub fn one<'a>(
-    text: &[u8],
-    tokens: &'a [Terminal],
-    sort: Sort,
-) -> Result<(Terminal, &'a [Terminal]), ReadError>
+pub fn one<'a>(text: &[u8], tokens: &'a [Terminal], sort: Sort) -> Read<'a, Terminal>
     ensures { Gives (λ x. (seen text.now x.0, toks text.now x.1.now)) result
         (read_sign sort (toks text.now tokens.now)) }
 {
