@@ -34,20 +34,20 @@ use Rattle.dactl_syntax.proofs.Language.{language_is, modules_read}
 use Rattle.dactl_syntax.proofs.Holding.{AreTold, split_told, Anything, holds_anything, holds_behind, holds_before, each_append}
 use Rattle.dactl_syntax.proofs.Words.{IsFine, text_of, after, toks_at, tokens_at, text_row, toks_row, words_lex, words_lex_wide, words_seen}
 use Rattle.dactl_syntax.proofs.Back.{Back, SameBy, back_weaker, back_bytes, back_one, back_pair, back_means, back_left, back_right, back_none, back_some, back_behind, back_before, back_many}
-use Rattle.dactl_syntax.proofs.Signs.{no_integer_keyword, no_integer_upper, semicolon_back, comma_back, equals_back, rewrites_back, module_back, end_module_back, imports_back, symbol_back, pattern_back, rule_back, initial_back, public_back, upper_back}
+use Rattle.dactl_syntax.proofs.Signs.{sign_back, no_integer_keyword, no_integer_upper, semicolon_back, upper_back}
 use Rattle.dactl_syntax.proofs.BackTerms.{ReadsBack, upper_reads, term_reads_back}
 use Rattle.dactl_syntax.proofs.BackPatterns.{pattern_reads_back}
 use Rattle.dactl_syntax.proofs.BackRules.{behind_reads, before_reads, listed_text, listed_reads, separated_reads, group_reads}
 
 module _ (wide : Bool) where
   names_read : ReadsBack wide names names_text (map bare_name)
-  names_read = separated_reads wide s.Comma (comma_back wide) (upper_reads wide) (upper_reads wide)
+  names_read = separated_reads wide s.Comma (sign_back wide s.Comma) (upper_reads wide) (upper_reads wide)
 
   -- ---- imports
 
   imports_read : ReadsBack wide imports item_text bare_item
   imports_read = holds_means imports_of (λ i. Back wide imports (item_text i) (SameBy bare_item i)) (λ ns h. back_means imports_of (SameBy bare_item (imports_of ns)) (λ u k. ap (λ (z : List Name). item.Imports z) k) h)
-      (behind_reads wide s.Imports (imports_back wide) (before_reads wide s.Semicolon (semicolon_back wide) names_read))
+      (behind_reads wide s.Imports (sign_back wide s.Imports) (before_reads wide s.Semicolon (semicolon_back wide) names_read))
 
   -- ---- symbols
 
@@ -62,7 +62,7 @@ module _ (wide : Bool) where
 
   public_class_back : (o : Option ClassHere) → Back wide (maybe (behind s.Public class)) (public_class_text o) (λ u. option_map bare_class u ≡ option_map bare_class o)
   public_class_back None = back_none (λ u. option_map bare_class u ≡ None) refl
-  public_class_back (Some c) = back_some (λ u. option_map bare_class u ≡ Some (bare_class c)) (λ v h. ap (λ (z : Class). Some (z, nowhere)) h) (back_behind s.Public (public_back wide) (class_back c.0))
+  public_class_back (Some c) = back_some (λ u. option_map bare_class u ≡ Some (bare_class c)) (λ v h. ap (λ (z : Class). Some (z, nowhere)) h) (back_behind s.Public (sign_back wide s.Public) (class_back c.0))
 
   same_symbols : (v u : ClassHere × (Option ClassHere × List Name)) → u.0.0 ≡ v.0.0 → option_map bare_class u.1.0 ≡ option_map bare_class v.1.0 → map bare_name u.1.1 ≡ map bare_name v.1.1 → bare_item (symbols_of u) ≡ bare_item (symbols_of v)
   same_symbols v u e f g =
@@ -72,13 +72,13 @@ module _ (wide : Bool) where
 
   symbols_read : ReadsBack wide symbols item_text bare_item
   symbols_read = holds_means symbols_of (λ i. Back wide symbols (item_text i) (SameBy bare_item i))
-      (λ v h. back_means symbols_of (SameBy bare_item (symbols_of v)) (λ u k. same_symbols v u k.0 k.1.0 k.1.1) (back_behind s.Symbol (symbol_back wide) (back_pair (class_back v.0.0) (back_pair (public_class_back v.1.0) h.1.1))))
+      (λ v h. back_means symbols_of (SameBy bare_item (symbols_of v)) (λ u k. same_symbols v u k.0 k.1.0 k.1.1) (back_behind s.Symbol (sign_back wide s.Symbol) (back_pair (class_back v.0.0) (back_pair (public_class_back v.1.0) h.1.1))))
       (holds_behind s.Symbol (split_told wide) (holds_row (split_told wide) (holds_anything class) (λ _. holds_row (split_told wide) (holds_anything (maybe (behind s.Public class))) (λ _. before_reads wide s.Semicolon (semicolon_back wide) names_read))))
 
   -- ---- named patterns, rules and starts
 
   public_mark : (b : Bool) → Back wide (means is_some (maybe (sign s.Public))) (public_text b) (λ u. u ≡ b)
-  public_mark true = back_means is_some (λ u. u ≡ true) (λ o h. h) (back_some (λ o. is_some o ≡ true) (λ t h. refl) (public_back wide))
+  public_mark true = back_means is_some (λ u. u ≡ true) (λ o h. h) (back_some (λ o. is_some o ≡ true) (λ t h. refl) (sign_back wide s.Public))
   public_mark false = back_means is_some (λ u. u ≡ false) (λ o h. h) (back_none (λ o. is_some o ≡ false) refl)
 
   same_named : (v u : Bool × (Name × PatternTree)) → u.0 ≡ v.0 → bare_name u.1.0 ≡ bare_name v.1.0 → bare_pattern u.1.1 ≡ bare_pattern v.1.1 → bare_item (pattern_named_of u) ≡ bare_item (pattern_named_of v)
@@ -90,8 +90,8 @@ module _ (wide : Bool) where
   module _ (n : ℕ) where
     named_read : ReadsBack wide (named n) item_text bare_item
     named_read = holds_means pattern_named_of (λ i. Back wide (named n) (item_text i) (SameBy bare_item i))
-        (λ v h. back_means pattern_named_of (SameBy bare_item (pattern_named_of v)) (λ u k. same_named v u k.0 k.1.0 k.1.1) (back_behind s.Pattern (pattern_back wide) (back_pair (public_mark v.0) (back_pair h.1.0 h.1.1))))
-        (holds_behind s.Pattern (split_told wide) (holds_row (split_told wide) (holds_anything (means is_some (maybe (sign s.Public)))) (λ _. holds_row (split_told wide) (upper_reads wide) (λ _. behind_reads wide s.Equals (equals_back wide) (before_reads wide s.Semicolon (semicolon_back wide) (pattern_reads_back wide n))))))
+        (λ v h. back_means pattern_named_of (SameBy bare_item (pattern_named_of v)) (λ u k. same_named v u k.0 k.1.0 k.1.1) (back_behind s.Pattern (sign_back wide s.Pattern) (back_pair (public_mark v.0) (back_pair h.1.0 h.1.1))))
+        (holds_behind s.Pattern (split_told wide) (holds_row (split_told wide) (holds_anything (means is_some (maybe (sign s.Public)))) (λ _. holds_row (split_told wide) (upper_reads wide) (λ _. behind_reads wide s.Equals (sign_back wide s.Equals) (before_reads wide s.Semicolon (semicolon_back wide) (pattern_reads_back wide n))))))
 
     several_text : (gs : List Group) → concat (map group_text gs) ≡ listed_text group_text group_text gs
     several_text [] = refl
@@ -100,12 +100,12 @@ module _ (wide : Bool) where
     rules_read : ReadsBack wide (rules n) item_text bare_item
     rules_read = holds_means rules_of (λ i. Back wide (rules n) (item_text i) (SameBy bare_item i))
         (λ gs h. back_means rules_of (SameBy bare_item (rules_of gs)) (λ u k. ap (λ (z : List Group). item.Rules z) k) (back_bytes _ _ (ap (λ (z : List ℕ). word (codes "RULE") ++ z) (several_text gs)) h))
-        (behind_reads wide s.Rule (rule_back wide) (listed_reads wide (group_reads wide n) (group_reads wide n)))
+        (behind_reads wide s.Rule (sign_back wide s.Rule) (listed_reads wide (group_reads wide n) (group_reads wide n)))
 
     initial_reads : ReadsBack wide (initial n) item_text bare_item
     initial_reads = holds_means initial_of (λ i. Back wide (initial n) (item_text i) (SameBy bare_item i))
-        (λ v h. back_means initial_of (SameBy bare_item (initial_of v)) (λ u k. ap (λ (z : List TermTree). item.Initial nowhere z) k.1) (back_pair (initial_back wide) h.1))
-        (holds_row (split_told wide) (holds_one (is s.Initial)) (λ _. behind_reads wide s.Rewrites (rewrites_back wide) (before_reads wide s.Semicolon (semicolon_back wide) (separated_reads wide s.Comma (comma_back wide) (term_reads_back wide n) (term_reads_back wide n)))))
+        (λ v h. back_means initial_of (SameBy bare_item (initial_of v)) (λ u k. ap (λ (z : List TermTree). item.Initial nowhere z) k.1) (back_pair (sign_back wide s.Initial) h.1))
+        (holds_row (split_told wide) (holds_one (is s.Initial)) (λ _. behind_reads wide s.Rewrites (sign_back wide s.Rewrites) (before_reads wide s.Semicolon (semicolon_back wide) (separated_reads wide s.Comma (sign_back wide s.Comma) (term_reads_back wide n) (term_reads_back wide n)))))
 
     abbrev IsItem : Item → Type 0
     IsItem i = Back wide (an_item n) (item_text i) (SameBy bare_item i)
@@ -134,7 +134,7 @@ module _ (wide : Bool) where
   rest_text w items = concat (map item_text items) ++ (word (codes "ENDMODULE") ++ (word w ++ line_end))
 
   rest_back : (n : ℕ) (w : List ℕ) (items : List Item) → kind_of wide w ≡ Some kinds.Upper → Each (λ i. Back wide (an_item n) (item_text i) (SameBy bare_item i)) items → Back wide (rest_of n w) (rest_text w items) (λ v. map bare_item v.0 ≡ map bare_item items)
-  rest_back n w items e h = back_weaker _ (λ v. map bare_item v.0 ≡ map bare_item items) (λ v k. k.0) (back_pair (back_many bare_item (an_item n) item_text items h) (back_behind s.EndModule (end_module_back wide) (back_before s.Semicolon (end_back w e) (semicolon_back wide))))
+  rest_back n w items e h = back_weaker _ (λ v. map bare_item v.0 ≡ map bare_item items) (λ v k. k.0) (back_pair (back_many bare_item (an_item n) item_text items h) (back_behind s.EndModule (sign_back wide s.EndModule) (back_before s.Semicolon (end_back w e) (semicolon_back wide))))
 
   -- a name, and behind it what the same name allows
   abbrev named_rest : ℕ → Part_of (Name × (List Item × Tok))
@@ -175,7 +175,7 @@ module _ (wide : Bool) where
   module_back_of : (n : ℕ) (m : Module) → kind_of wide m.name.text ≡ Some kinds.Upper → Each (λ i. Back wide (an_item n) (item_text i) (SameBy bare_item i)) m.items → Back wide (a_module n) (module_text m) (SameBy bare_module m)
   module_back_of n m e h = back_means module_of (SameBy bare_module m) (λ v k. same_module m (module_of v) k.0 k.1)
       (back_bytes (module_text m) (word (codes "MODULE") ++ ((word m.name.text ++ line_end) ++ rest_text m.name.text m.items)) (ap (λ (z : List ℕ). word (codes "MODULE") ++ z) (sym (append_assoc (word m.name.text) line_end (rest_text m.name.text m.items))))
-      (back_behind s.Module (module_back wide) (named_back n m.name m.items e h)))
+      (back_behind s.Module (sign_back wide s.Module) (named_back n m.name m.items e h)))
 
   module_reads : (n : ℕ) → ReadsBack wide (a_module n) module_text bare_module
   module_reads n = holds_means module_of (λ m. Back wide (a_module n) (module_text m) (SameBy bare_module m)) (λ v h. module_back_of n (module_of v) h.0 h.1.0)

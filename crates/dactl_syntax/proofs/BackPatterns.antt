@@ -22,7 +22,7 @@ use Rattle.dactl_syntax.specs.Canonical.{word, character, Piece, in_round, stand
 use Rattle.dactl_meaning.specs.Unplaced.{bare_name, bare_pattern_level, bare_pattern}
 use Rattle.dactl_syntax.proofs.Holding.{AreTold, split_told, holds_behind, holds_before}
 use Rattle.dactl_syntax.proofs.Back.{Back, SameBy, SameList, back_weaker, back_bytes, back_wider, back_pair, back_means, back_left, back_right, back_none, back_some, back_behind, back_before, back_nil, back_many}
-use Rattle.dactl_syntax.proofs.Signs.{integer_back, character_back, char_back, open_back, close_back, left_back, right_back, colon_back, plus_back, minus_back, any_back, int_back}
+use Rattle.dactl_syntax.proofs.Signs.{sign_back, integer_back, character_back, char_back}
 use Rattle.dactl_syntax.proofs.BackTerms.{ReadsBack, upper_reads, lower_reads}
 use Rattle.dactl_syntax.proofs.Written.{whole_sym, whole_chain}
 use Rattle.dactl_syntax.proofs.Wider.{base_grows, piece_grows, pattern_grows}
@@ -118,7 +118,7 @@ module _ (wide : Bool) where
 
   round_back : (n : ℕ) (t : PatternTree) → Own n t → Back wide (rounds (suc n)) (in_round (own_bytes t)) (Same t)
   unfolding rounds
-  round_back n t o = back_behind s.Left (left_back wide) (back_before s.Right (own_pattern n t o) (right_back wide))
+  round_back n t o = back_behind s.Left (sign_back wide s.Left) (back_before s.Right (own_pattern n t o) (sign_back wide s.Right))
 
   round_base : (n : ℕ) (t : PatternTree) → Own n t → IsBase (suc n) t
   round_base n t o = in_brackets n t o (back_right (back_right (back_right (back_right (back_right (back_right (round_back n t o)))))))
@@ -160,15 +160,15 @@ module _ (wide : Bool) where
 
   operator_reads : Holds (AreTold wide) operator (λ o. Back wide operator (sign_text o) (λ k. k ≡ o))
   operator_reads = holds_choice
-      (holds_means plus_of (λ o. Back wide operator (sign_text o) (λ k. k ≡ o)) (λ t h. back_left (back_means plus_of (λ k. k ≡ signs.Plus) (λ u l. refl) (plus_back wide))) (holds_one (is s.Plus)))
-      (holds_means minus_of (λ o. Back wide operator (sign_text o) (λ k. k ≡ o)) (λ t h. back_right (back_means minus_of (λ k. k ≡ signs.Minus) (λ u l. refl) (minus_back wide))) (holds_one (is s.Minus)))
+      (holds_means plus_of (λ o. Back wide operator (sign_text o) (λ k. k ≡ o)) (λ t h. back_left (back_means plus_of (λ k. k ≡ signs.Plus) (λ u l. refl) (sign_back wide s.Plus))) (holds_one (is s.Plus)))
+      (holds_means minus_of (λ o. Back wide operator (sign_text o) (λ k. k ≡ o)) (λ t h. back_right (back_means minus_of (λ k. k ≡ signs.Minus) (λ u l. refl) (sign_back wide s.Minus))) (holds_one (is s.Minus)))
 
   module _ (n : ℕ) (square_reads : ReadsBack wide (squares n) pieces_text (map bare_pattern)) (round_reads : Holds (AreTold wide) (rounds n) (IsBase n)) where
     any_base : IsBase n p.Any
-    any_base = stands_as n p.Any (word (codes "ANY")) (level_text p.Any PatternTree-F.Any rolls-Any) (back_left (back_means any_of (Same p.Any) (λ u k. refl) (any_back wide)))
+    any_base = stands_as n p.Any (word (codes "ANY")) (level_text p.Any PatternTree-F.Any rolls-Any) (back_left (back_means any_of (Same p.Any) (λ u k. refl) (sign_back wide s.Any)))
 
     int_base : IsBase n p.Int
-    int_base = stands_as n p.Int (word (codes "INT")) (level_text p.Int PatternTree-F.Int rolls-Int) (back_right (back_left (back_means int_of (Same p.Int) (λ u k. refl) (int_back wide))))
+    int_base = stands_as n p.Int (word (codes "INT")) (level_text p.Int PatternTree-F.Int rolls-Int) (back_right (back_left (back_means int_of (Same p.Int) (λ u k. refl) (sign_back wide s.Int))))
 
     char_base : wide ≡ true → IsBase n p.Char
     char_base e = stands_as n p.Char (word (codes "CHAR")) (level_text p.Char PatternTree-F.Char rolls-Char) (back_right (back_right (back_left (back_means char_of (Same p.Char) (λ u k. refl) (char_back wide e)))))
@@ -213,7 +213,7 @@ module _ (wide : Bool) where
         (back_left (back_means pieced (Same (p.Variable name)) (λ v l. same_variable name v l.0 l.1) (back_pair h (back_none (λ o. o ≡ None) refl)))))
     named_piece name (Some inner) h k = as_named (p.Binder name inner) (word name.text ++ (word (codes ":") ++ pattern_text standing.Bound inner)) (level_text (p.Binder name inner) (PatternTree-F.Binder name inner) (rolls-Binder name inner))
         (back_left (back_means pieced (Same (p.Binder name inner)) (λ v l. same_binder name inner v.0 v.1 l.0 l.1)
-        (back_pair h (back_some (λ o. option_map bare_pattern o ≡ Some (bare_pattern inner)) (λ o l. ap Some l) (back_behind s.Colon (colon_back wide) k.bound)))))
+        (back_pair h (back_some (λ o. option_map bare_pattern o ≡ Some (bare_pattern inner)) (λ o l. ap Some l) (back_behind s.Colon (sign_back wide s.Colon) k.bound)))))
 
     piece_holds : Holds (AreTold wide) (piece_part n) (IsPiece n)
     piece_holds = holds_choice
@@ -244,7 +244,7 @@ module _ (wide : Bool) where
 
   square_back : (n : ℕ) (given : List PatternTree) → Each (IsPiece n) given → Back wide (squares (suc n)) (pieces_text given) (SameList bare_pattern given)
   unfolding squares
-  square_back n given h = back_behind s.Open (open_back wide) (back_before s.Close (back_many bare_pattern (piece_part n) (pattern_text standing.Inner) given (inners_back n given h)) (close_back wide))
+  square_back n given h = back_behind s.Open (sign_back wide s.Open) (back_before s.Close (back_many bare_pattern (piece_part n) (pattern_text standing.Inner) given (inners_back n given h)) (sign_back wide s.Close))
 
   record BothRead (n : ℕ) : Type 0 where
     pub square : ReadsBack wide (squares n) pieces_text (map bare_pattern)

@@ -18,7 +18,7 @@ use Rattle.dactl_syntax.specs.Canonical.{word, comma, separated as separated_tex
 use Rattle.dactl_meaning.specs.Unplaced.{nowhere, bare_name, bare_term, bare_pattern, bare_part, bare_rule, bare_group}
 use Rattle.dactl_syntax.proofs.Holding.{AreTold, split_told, Anything, holds_behind, holds_before}
 use Rattle.dactl_syntax.proofs.Back.{Back, SameBy, back_bytes, back_pair, back_means, back_left, back_right, back_placed, back_behind, back_before, back_listed}
-use Rattle.dactl_syntax.proofs.Signs.{semicolon_back, comma_back, bar_back, becomes_back, rewrites_back, arrow_back}
+use Rattle.dactl_syntax.proofs.Signs.{sign_back, semicolon_back}
 use Rattle.dactl_syntax.proofs.BackTerms.{ReadsBack, lower_reads, term_reads_back}
 use Rattle.dactl_syntax.proofs.BackPatterns.{pattern_reads_back}
 
@@ -79,7 +79,7 @@ module _ (wide : Bool) where
     plain_reads = holds_means part_term (λ t. Back wide (means part_term (term (args n))) (part_text t) (SameBy bare_part t)) (λ t h. back_means part_term (SameBy bare_part (part_term t)) (λ u k. ap (λ (z : TermTree). parts.Term z) k) h) (term_reads_back wide n)
 
     redirect_back : (left : Name) (t : TermTree) → Back wide lower (word left.text) (SameBy bare_name left) → Back wide (term (args n)) (term_text t) (SameBy bare_term t) → Back wide (part n) (part_text (parts.Redirect left t)) (SameBy bare_part (parts.Redirect left t))
-    redirect_back left t h k = back_left (back_means part_redirect (SameBy bare_part (parts.Redirect left t)) (λ u l. ap (λ (z : Name). parts.Redirect z (bare_term u.1)) l.0 ∙ ap (λ (z : TermTree). parts.Redirect (bare_name left) z) l.1) (back_pair h (back_behind s.Becomes (becomes_back wide) k)))
+    redirect_back left t h k = back_left (back_means part_redirect (SameBy bare_part (parts.Redirect left t)) (λ u l. ap (λ (z : Name). parts.Redirect z (bare_term u.1)) l.0 ∙ ap (λ (z : TermTree). parts.Redirect (bare_name left) z) l.1) (back_pair h (back_behind s.Becomes (sign_back wide s.Becomes) k)))
 
     part_reads : ReadsBack wide (part n) part_text bare_part
     part_reads = holds_choice
@@ -88,11 +88,11 @@ module _ (wide : Bool) where
 
     rewriting_reads : ReadsBack wide (rewriting n) side_text bare_side
     rewriting_reads = holds_means rewrites_of (λ v. Back wide (rewriting n) (side_text v) (SameBy bare_side v)) (λ ps h. back_means rewrites_of (SameBy bare_side (rewrites_of ps)) (λ u k. ap (λ (z : List Part). (true, z)) k) h)
-        (behind_reads s.Rewrites (rewrites_back wide) (separated_reads s.Comma (comma_back wide) plain_reads part_reads))
+        (behind_reads s.Rewrites (sign_back wide s.Rewrites) (separated_reads s.Comma (sign_back wide s.Comma) plain_reads part_reads))
 
     redirecting_reads : ReadsBack wide (redirecting n) side_text bare_side
     redirecting_reads = holds_means redirects_of (λ v. Back wide (redirecting n) (side_text v) (SameBy bare_side v)) (λ ps h. back_means redirects_of (SameBy bare_side (redirects_of ps)) (λ u k. ap (λ (z : List Part). (false, z)) k) h)
-        (behind_reads s.Arrow (arrow_back wide) (separated_reads s.Comma (comma_back wide) part_reads part_reads))
+        (behind_reads s.Arrow (sign_back wide s.Arrow) (separated_reads s.Comma (sign_back wide s.Comma) part_reads part_reads))
 
     -- either form of rule
     abbrev ruled : Part_of (PatternTree × (Bool × List Part))
@@ -108,4 +108,4 @@ module _ (wide : Bool) where
 
     pub group_reads : ReadsBack wide (group n) group_text bare_group
     group_reads = holds_means group_of (λ g. Back wide (group n) (group_text g) (SameBy bare_group g)) (λ rs h. back_means group_of (SameBy bare_group (group_of rs)) (λ u k. ap (λ (z : List RuleTree). record { rules = z }) k) h)
-        (before_reads s.Semicolon (semicolon_back wide) (separated_reads s.Bar (bar_back wide) rule_reads rule_reads))
+        (before_reads s.Semicolon (semicolon_back wide) (separated_reads s.Bar (sign_back wide s.Bar) rule_reads rule_reads))

@@ -25,7 +25,7 @@ use Rattle.dactl_syntax.specs.Canonical.{word, character, bracketed, repeated, m
 use Rattle.dactl_meaning.specs.Unplaced.{bare_name, bare_marks, bare_node_level, bare_arg_level, bare_term_level, bare_node, bare_arg, bare_term, nowhere}
 use Rattle.dactl_syntax.proofs.Holding.{AreTold, split_told, holds_anything, holds_behind, holds_before}
 use Rattle.dactl_syntax.proofs.Back.{Back, SameBy, SameList, back_bytes, back_pair, back_means, back_left, back_right, back_none, back_some, back_behind, back_before, back_nil, back_cons, back_many}
-use Rattle.dactl_syntax.proofs.Signs.{upper_back, lower_back, integer_back, character_back, open_back, close_back, colon_back, star_back, hash_back, wait_back}
+use Rattle.dactl_syntax.proofs.Signs.{sign_back, upper_back, lower_back, integer_back, character_back}
 
 module _ (wide : Bool) where
   -- each meaning of the part on tokens of a text is written as bytes that the part derives again, the same seen through e
@@ -51,13 +51,13 @@ module _ (wide : Bool) where
 
   hashes_back : (n : ℕ) → Back wide (many (sign s.Hash)) (repeated n hash_text) (λ ts. length ts ≡ n)
   hashes_back zero = back_nil (λ ts. length ts ≡ 0) refl
-  hashes_back (suc n) = back_bytes (repeated (suc n) hash_text) (hash_text ++ repeated n hash_text) (repeated_front n hash_text) (back_cons (λ ts. length ts ≡ suc n) (λ t ts h k. ap (λ (m : ℕ). suc m) k) (hash_back wide) (hashes_back n))
+  hashes_back (suc n) = back_bytes (repeated (suc n) hash_text) (hash_text ++ repeated n hash_text) (repeated_front n hash_text) (back_cons (λ ts. length ts ≡ suc n) (λ t ts h k. ap (λ (m : ℕ). suc m) k) (sign_back wide s.Hash) (hashes_back n))
 
   some_hashes : (n count : ℕ) (place : Place) → count ≡ n + 1 → count ≤ 4294967295 → Back wide mark (marks_text (marks.Hashes place count)) (SameBy bare_marks (marks.Hashes place count))
   some_hashes n count place e low =
       let front : repeated count hash_text ≡ hash_text ++ repeated n hash_text = ap (λ (m : ℕ). repeated m hash_text) (e ∙ one_more n) ∙ repeated_front n hash_text in
       back_bytes (repeated count hash_text) (hash_text ++ repeated n hash_text) front
-      (back_right (back_means hashes_of (SameBy bare_marks (marks.Hashes place count)) (λ v h. ap (λ (m : ℕ). marks.Hashes nowhere m) (same v.1 h.1)) (back_pair (hash_back wide) (back_means length (λ m. m ≡ n) (λ ts h. h) (hashes_back n)))))
+      (back_right (back_means hashes_of (SameBy bare_marks (marks.Hashes place count)) (λ v h. ap (λ (m : ℕ). marks.Hashes nowhere m) (same v.1 h.1)) (back_pair (sign_back wide s.Hash) (back_means length (λ m. m ≡ n) (λ ts h. h) (hashes_back n)))))
     where
       one_more : (m : ℕ) → m + 1 ≡ suc m
       one_more m = omega arith
@@ -67,7 +67,7 @@ module _ (wide : Bool) where
 
   mark_reads : ReadsBack mark marks_text bare_marks
   mark_reads = holds_choice
-      (holds_means star_of (λ m. Back wide mark (marks_text m) (SameBy bare_marks m)) (λ t h. back_left (back_means star_of (SameBy bare_marks (star_of t)) (λ u k. refl) (star_back wide))) (holds_one (is s.Star)))
+      (holds_means star_of (λ m. Back wide mark (marks_text m) (SameBy bare_marks m)) (λ t h. back_left (back_means star_of (SameBy bare_marks (star_of t)) (λ u k. refl) (sign_back wide s.Star))) (holds_one (is s.Star)))
       (holds_means hashes_of (λ m. Back wide mark (marks_text m) (SameBy bare_marks m)) (λ v h. hashes v) (holds_row (split_told wide) (holds_one (is s.Hash)) (λ _. holds_anything counted)))
     where
       hashes : (v : Tok × ℕ) → Back wide mark (marks_text (hashes_of v)) (SameBy bare_marks (hashes_of v))
@@ -160,7 +160,7 @@ module _ (wide : Bool) where
 
   waits_back : (o : Option Tok) → Back wide (maybe (sign s.Wait)) (wait_text o) (λ u. is_some u ≡ is_some o)
   waits_back None = back_none (λ u. is_some u ≡ false) refl
-  waits_back (Some t) = back_some (λ u. is_some u ≡ true) (λ u h. refl) (wait_back wide)
+  waits_back (Some t) = back_some (λ u. is_some u ≡ true) (λ u h. refl) (sign_back wide s.Wait)
 
   module _ (inner : Part_of (List ArgTree)) (inner_reads : ReadsBack inner args_text (map bare_arg)) where
     -- a symbol without arguments
@@ -189,7 +189,7 @@ module _ (wide : Bool) where
     named_back name None h k = back_bytes (word name.text) (word name.text ++ []) (sym (append-nil (word name.text)))
         (back_left (back_means named_of (SameBody (Some name, None)) (λ v l. (ap Some l.0, ap (option_map bare_node) l.1)) (back_pair h (back_none (λ o. o ≡ None) refl))))
     named_back name (Some n) h k = back_left (back_means named_of (SameBody (Some name, Some n)) (λ v l. (ap Some l.0, l.1))
-        (back_pair h (back_some (λ o. option_map bare_node o ≡ Some (bare_node n)) (λ o l. ap Some l) (back_behind s.Colon (colon_back wide) k))))
+        (back_pair h (back_some (λ o. option_map bare_node o ≡ Some (bare_node n)) (λ o l. ap Some l) (back_behind s.Colon (sign_back wide s.Colon) k))))
 
     body_reads : Holds (AreTold wide) (body inner) (λ v. Back wide (body inner) (text_body v) (SameBody v))
     body_reads = holds_choice
@@ -209,7 +209,7 @@ module _ (wide : Bool) where
 
   -- arguments in brackets
   bracketed_back : (inner : Part_of (List ArgTree)) (given : List ArgTree) → Each (λ a. Back wide (arg inner) (arg_text a) (SameBy bare_arg a)) given → Back wide (behind s.Open (before (many (arg inner)) s.Close)) (args_text given) (SameList bare_arg given)
-  bracketed_back inner given h = back_behind s.Open (open_back wide) (back_before s.Close (back_many bare_arg (arg inner) arg_text given h) (close_back wide))
+  bracketed_back inner given h = back_behind s.Open (sign_back wide s.Open) (back_before s.Close (back_many bare_arg (arg inner) arg_text given h) (sign_back wide s.Close))
 
   pub args_read : (n : ℕ) → ReadsBack (args n) args_text (map bare_arg)
   unfolding args

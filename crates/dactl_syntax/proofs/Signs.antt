@@ -1,5 +1,5 @@
 -- Each sign, keyword and name is written as the token that it is.
-use Rattle.std.proofs.Common.{◌≡◌, ℕ, Bool, true, inl, inr, List, Some, refl, sym, ap, subst, false}
+use Rattle.std.proofs.Common.{◌≡◌, ℕ, Bool, true, inl, inr, List, Option, None, Some, refl, sym, ap, subst, false}
 use Rattle.std.specs.Prelude.{codes, ℤ, ◌<◌}
 use Rattle.std.specs.Int.Signed.{mag}
 use Rattle.std.specs.Fmt.{signed_decimal}
@@ -17,6 +17,7 @@ use Rattle.dactl_meaning.specs.Unplaced.{bare_name}
 use Rattle.dactl_syntax.proofs.TokenFacts.{character_bytes, character_is}
 use Rattle.dactl_syntax.proofs.Holding.{Anything}
 use Rattle.dactl_syntax.proofs.Numbers.{decimal_spelled}
+use Rattle.dactl_grammar.proofs.Holds.{IfThere}
 use Rattle.dactl_syntax.proofs.Back.{Back, SameBy, back_one, back_means}
 
 -- ---- signs and keywords
@@ -48,109 +49,65 @@ module _ (wide : Bool) where
   unfolding kind_of is_sign_byte is_long_sign sort_of sign_sort same_sort
   semicolon_back = back_one (is s.Semicolon) (record { kind = kinds.Sign; bytes = codes ";"; blank = 10 }) Anything (record { kind = refl; fits = λ i. absurd (no_integer_sign i); space = inr refl }) (λ place. refl) (λ place. tt)
 
-  pub open_back : Back wide (sign s.Open) (word (codes "[")) Anything
-  unfolding kind_of is_sign_byte is_long_sign sort_of sign_sort same_sort
-  open_back = sign_word s.Open (codes "[") refl refl
+  -- the bytes of the signs and keywords that are the same in both languages
+  abbrev bytes_of : Sort → Option (List ℕ)
+  bytes_of s.Open = Some (codes "[")
+  bytes_of s.Close = Some (codes "]")
+  bytes_of s.Left = Some (codes "(")
+  bytes_of s.Right = Some (codes ")")
+  bytes_of s.Comma = Some (codes ",")
+  bytes_of s.Bar = Some (codes "|")
+  bytes_of s.Colon = Some (codes ":")
+  bytes_of s.Becomes = Some (codes ":=")
+  bytes_of s.Equals = Some (codes "=")
+  bytes_of s.Rewrites = Some (codes "=>")
+  bytes_of s.Arrow = Some (codes "->")
+  bytes_of s.Star = Some (codes "*")
+  bytes_of s.Hash = Some (codes "#")
+  bytes_of s.Wait = Some (codes "^")
+  bytes_of s.Plus = Some (codes "+")
+  bytes_of s.Minus = Some (codes "-")
+  bytes_of s.Module = Some (codes "MODULE")
+  bytes_of s.EndModule = Some (codes "ENDMODULE")
+  bytes_of s.Imports = Some (codes "IMPORTS")
+  bytes_of s.Symbol = Some (codes "SYMBOL")
+  bytes_of s.Pattern = Some (codes "PATTERN")
+  bytes_of s.Rule = Some (codes "RULE")
+  bytes_of s.Initial = Some (codes "INITIAL")
+  bytes_of s.Public = Some (codes "PUBLIC")
+  bytes_of s.Any = Some (codes "ANY")
+  bytes_of s.Int = Some (codes "INT")
+  bytes_of _ = None
 
-  pub close_back : Back wide (sign s.Close) (word (codes "]")) Anything
-  unfolding kind_of is_sign_byte is_long_sign sort_of sign_sort same_sort
-  close_back = sign_word s.Close (codes "]") refl refl
-
-  pub left_back : Back wide (sign s.Left) (word (codes "(")) Anything
-  unfolding kind_of is_sign_byte is_long_sign sort_of sign_sort same_sort
-  left_back = sign_word s.Left (codes "(") refl refl
-
-  pub right_back : Back wide (sign s.Right) (word (codes ")")) Anything
-  unfolding kind_of is_sign_byte is_long_sign sort_of sign_sort same_sort
-  right_back = sign_word s.Right (codes ")") refl refl
-
-  pub comma_back : Back wide (sign s.Comma) (word (codes ",")) Anything
-  unfolding kind_of is_sign_byte is_long_sign sort_of sign_sort same_sort
-  comma_back = sign_word s.Comma (codes ",") refl refl
-
-  pub bar_back : Back wide (sign s.Bar) (word (codes "|")) Anything
-  unfolding kind_of is_sign_byte is_long_sign sort_of sign_sort same_sort
-  bar_back = sign_word s.Bar (codes "|") refl refl
-
-  pub colon_back : Back wide (sign s.Colon) (word (codes ":")) Anything
-  unfolding kind_of is_sign_byte is_long_sign sort_of sign_sort same_sort
-  colon_back = sign_word s.Colon (codes ":") refl refl
-
-  pub becomes_back : Back wide (sign s.Becomes) (word (codes ":=")) Anything
-  unfolding kind_of is_sign_byte is_long_sign sort_of sign_sort same_sort
-  becomes_back = sign_word s.Becomes (codes ":=") refl refl
-
-  pub equals_back : Back wide (sign s.Equals) (word (codes "=")) Anything
-  unfolding kind_of is_sign_byte is_long_sign sort_of sign_sort same_sort
-  equals_back = sign_word s.Equals (codes "=") refl refl
-
-  pub rewrites_back : Back wide (sign s.Rewrites) (word (codes "=>")) Anything
-  unfolding kind_of is_sign_byte is_long_sign sort_of sign_sort same_sort
-  rewrites_back = sign_word s.Rewrites (codes "=>") refl refl
-
-  pub arrow_back : Back wide (sign s.Arrow) (word (codes "->")) Anything
-  unfolding kind_of is_sign_byte is_long_sign sort_of sign_sort same_sort
-  arrow_back = sign_word s.Arrow (codes "->") refl refl
-
-  pub star_back : Back wide (sign s.Star) (word (codes "*")) Anything
-  unfolding kind_of is_sign_byte is_long_sign sort_of sign_sort same_sort
-  star_back = sign_word s.Star (codes "*") refl refl
-
-  pub hash_back : Back wide (sign s.Hash) (word (codes "#")) Anything
-  unfolding kind_of is_sign_byte is_long_sign sort_of sign_sort same_sort
-  hash_back = sign_word s.Hash (codes "#") refl refl
-
-  pub wait_back : Back wide (sign s.Wait) (word (codes "^")) Anything
-  unfolding kind_of is_sign_byte is_long_sign sort_of sign_sort same_sort
-  wait_back = sign_word s.Wait (codes "^") refl refl
-
-  pub plus_back : Back wide (sign s.Plus) (word (codes "+")) Anything
-  unfolding kind_of is_sign_byte is_long_sign sort_of sign_sort same_sort
-  plus_back = sign_word s.Plus (codes "+") refl refl
-
-  pub minus_back : Back wide (sign s.Minus) (word (codes "-")) Anything
-  unfolding kind_of is_sign_byte is_long_sign sort_of sign_sort same_sort
-  minus_back = sign_word s.Minus (codes "-") refl refl
-
-  pub module_back : Back wide (sign s.Module) (word (codes "MODULE")) Anything
-  unfolding kind_of is_keyword sort_of keyword_sort same_sort
-  module_back = keyword_word s.Module (codes "MODULE") refl refl
-
-  pub end_module_back : Back wide (sign s.EndModule) (word (codes "ENDMODULE")) Anything
-  unfolding kind_of is_keyword sort_of keyword_sort same_sort
-  end_module_back = keyword_word s.EndModule (codes "ENDMODULE") refl refl
-
-  pub imports_back : Back wide (sign s.Imports) (word (codes "IMPORTS")) Anything
-  unfolding kind_of is_keyword sort_of keyword_sort same_sort
-  imports_back = keyword_word s.Imports (codes "IMPORTS") refl refl
-
-  pub symbol_back : Back wide (sign s.Symbol) (word (codes "SYMBOL")) Anything
-  unfolding kind_of is_keyword sort_of keyword_sort same_sort
-  symbol_back = keyword_word s.Symbol (codes "SYMBOL") refl refl
-
-  pub pattern_back : Back wide (sign s.Pattern) (word (codes "PATTERN")) Anything
-  unfolding kind_of is_keyword sort_of keyword_sort same_sort
-  pattern_back = keyword_word s.Pattern (codes "PATTERN") refl refl
-
-  pub rule_back : Back wide (sign s.Rule) (word (codes "RULE")) Anything
-  unfolding kind_of is_keyword sort_of keyword_sort same_sort
-  rule_back = keyword_word s.Rule (codes "RULE") refl refl
-
-  pub initial_back : Back wide (sign s.Initial) (word (codes "INITIAL")) Anything
-  unfolding kind_of is_keyword sort_of keyword_sort same_sort
-  initial_back = keyword_word s.Initial (codes "INITIAL") refl refl
-
-  pub public_back : Back wide (sign s.Public) (word (codes "PUBLIC")) Anything
-  unfolding kind_of is_keyword sort_of keyword_sort same_sort
-  public_back = keyword_word s.Public (codes "PUBLIC") refl refl
-
-  pub any_back : Back wide (sign s.Any) (word (codes "ANY")) Anything
-  unfolding kind_of is_keyword sort_of keyword_sort same_sort
-  any_back = keyword_word s.Any (codes "ANY") refl refl
-
-  pub int_back : Back wide (sign s.Int) (word (codes "INT")) Anything
-  unfolding kind_of is_keyword sort_of keyword_sort same_sort
-  int_back = keyword_word s.Int (codes "INT") refl refl
+  pub sign_back : (k : Sort) → IfThere (λ w. Back wide (sign k) (word w) Anything) (bytes_of k)
+  unfolding kind_of is_keyword is_sign_byte is_long_sign sort_of keyword_sort sign_sort same_sort
+  sign_back s.Open = sign_word s.Open (codes "[") refl refl
+  sign_back s.Close = sign_word s.Close (codes "]") refl refl
+  sign_back s.Left = sign_word s.Left (codes "(") refl refl
+  sign_back s.Right = sign_word s.Right (codes ")") refl refl
+  sign_back s.Comma = sign_word s.Comma (codes ",") refl refl
+  sign_back s.Bar = sign_word s.Bar (codes "|") refl refl
+  sign_back s.Colon = sign_word s.Colon (codes ":") refl refl
+  sign_back s.Becomes = sign_word s.Becomes (codes ":=") refl refl
+  sign_back s.Equals = sign_word s.Equals (codes "=") refl refl
+  sign_back s.Rewrites = sign_word s.Rewrites (codes "=>") refl refl
+  sign_back s.Arrow = sign_word s.Arrow (codes "->") refl refl
+  sign_back s.Star = sign_word s.Star (codes "*") refl refl
+  sign_back s.Hash = sign_word s.Hash (codes "#") refl refl
+  sign_back s.Wait = sign_word s.Wait (codes "^") refl refl
+  sign_back s.Plus = sign_word s.Plus (codes "+") refl refl
+  sign_back s.Minus = sign_word s.Minus (codes "-") refl refl
+  sign_back s.Module = keyword_word s.Module (codes "MODULE") refl refl
+  sign_back s.EndModule = keyword_word s.EndModule (codes "ENDMODULE") refl refl
+  sign_back s.Imports = keyword_word s.Imports (codes "IMPORTS") refl refl
+  sign_back s.Symbol = keyword_word s.Symbol (codes "SYMBOL") refl refl
+  sign_back s.Pattern = keyword_word s.Pattern (codes "PATTERN") refl refl
+  sign_back s.Rule = keyword_word s.Rule (codes "RULE") refl refl
+  sign_back s.Initial = keyword_word s.Initial (codes "INITIAL") refl refl
+  sign_back s.Public = keyword_word s.Public (codes "PUBLIC") refl refl
+  sign_back s.Any = keyword_word s.Any (codes "ANY") refl refl
+  sign_back s.Int = keyword_word s.Int (codes "INT") refl refl
+  sign_back _ = tt
 
   pub char_back : wide ≡ true → Back wide (sign s.Char) (word (codes "CHAR")) Anything
   unfolding kind_of is_keyword sort_of keyword_sort same_sort
