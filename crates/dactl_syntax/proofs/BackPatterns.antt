@@ -25,7 +25,7 @@ use Rattle.dactl_syntax.proofs.Back.{Back, SameBy, SameList, back_weaker, back_b
 use Rattle.dactl_syntax.proofs.Signs.{sign_back, integer_back, character_back, char_back}
 use Rattle.dactl_syntax.proofs.BackTerms.{ReadsBack, upper_reads, lower_reads}
 use Rattle.dactl_syntax.proofs.Written.{whole_sym, whole_chain}
-use Rattle.dactl_syntax.proofs.Wider.{base_grows, piece_grows, pattern_grows}
+use Rattle.dactl_syntax.proofs.TextGrowth.{base_wider, piece_wider, g_pattern}
 
 module _ (wide : Bool) where
   abbrev Same : PatternTree → PatternTree → Type 0
@@ -64,9 +64,9 @@ module _ (wide : Bool) where
     as_chain : (w : List ℕ) → piece_of t ≡ record { bytes = w; is_chain = true; is_named = false } → Back wide (pattern n) w (Same t) → Own n t
 
   own_grows : (n : ℕ) (t : PatternTree) → Own n t → Own (suc n) t
-  own_grows n t (as_base w e b) = as_base w e (back_wider (base_at n) (base_at (suc n)) (base_grows n).of b)
-  own_grows n t (as_piece w e b) = as_piece w e (back_wider (piece_part n) (piece_part (suc n)) (piece_grows n).of b)
-  own_grows n t (as_chain w e b) = as_chain w e (back_wider (pattern n) (pattern (suc n)) (pattern_grows n).of b)
+  own_grows n t (as_base w e b) = as_base w e (back_wider (base_at n) (base_at (suc n)) (base_wider n) b)
+  own_grows n t (as_piece w e b) = as_piece w e (back_wider (piece_part n) (piece_part (suc n)) (piece_wider n) b)
+  own_grows n t (as_chain w e b) = as_chain w e (back_wider (pattern n) (pattern (suc n)) (g_pattern n).whole b)
 
   base_piece : (n : ℕ) {w : List ℕ} {X : PatternTree → Type 0} → Back wide (base_at n) w X → Back wide (piece_part n) w X
   base_piece n b = back_right b
@@ -104,11 +104,11 @@ module _ (wide : Bool) where
 
   -- within round brackets
   in_brackets : (n : ℕ) (t : PatternTree) → Own n t → (inner : Back wide (base_at (suc n)) (in_round (own_bytes t)) (Same t)) → IsBase (suc n) t
-  in_brackets n t (as_base w e b) inner = stands_as (suc n) t w e (back_wider (base_at n) (base_at (suc n)) (base_grows n).of b)
+  in_brackets n t (as_base w e b) inner = stands_as (suc n) t w e (back_wider (base_at n) (base_at (suc n)) (base_wider n) b)
   in_brackets n t (as_piece w e b) inner = record {
     own = own_grows n t (as_piece w e b);
     bound = back_bytes _ _ (ap (stand standing.Bound) e ∙ ap in_round (sym (ap (λ (q : Piece). q.bytes) e))) inner;
-    inner = back_bytes _ _ (ap (stand standing.Inner) e) (back_wider (piece_part n) (piece_part (suc n)) (piece_grows n).of b);
+    inner = back_bytes _ _ (ap (stand standing.Inner) e) (back_wider (piece_part n) (piece_part (suc n)) (piece_wider n) b);
   }
   in_brackets n t (as_chain w e b) inner = record {
     own = own_grows n t (as_chain w e b);

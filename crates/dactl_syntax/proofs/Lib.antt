@@ -20,7 +20,6 @@ pub mod InOrder
 pub mod Words
 pub mod Back
 pub mod Signs
-pub mod Wider
 pub mod BackTerms
 pub mod BackPatterns
 pub mod BackRules

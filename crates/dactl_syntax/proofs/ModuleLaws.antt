@@ -1,5 +1,6 @@
 -- Reading items, modules and texts is exact for their grammar.
 use Rattle.std.proofs.Common.{◌≡◌, ℕ, Bool, true, false, inl, inr, List, [], ◌∷◌, refl}
+use Rattle.std.proofs.lemmas.Bool.{and_parts}
 use Rattle.std.specs.Prelude.{◌||◌, is_some}
 use Rattle.std.specs.Str.{bytes_eq}
 use Rattle.dactl_terminals.specs.declared.token.Sort.{Sort}
@@ -14,7 +15,6 @@ use Rattle.dactl_syntax.specs.Productions.{several, term, args, pattern, group, 
 use Rattle.dactl_terminals.specs.Reads.{by}
 use Rattle.dactl_syntax.specs.Reading.{comma_term_at, terms_at, items_at, imports_at, class_reads, public_class_at, public_at, symbols_at, named_at, rules_at, initial_at, item_at, module_end, module_at, modules_at, language_at, text_at}
 use Rattle.dactl_grammar.proofs.Exact.{exact_one}
-use Rattle.dactl_terminals.proofs.Sorts.{first_of_and}
 use Rattle.dactl_terminals.proofs.Fits.{none, Fit, a_meaning}
 use Rattle.dactl_terminals.proofs.Firm.{Firm, firm_sign, firm_as, firm_pair, firm_after, firm_behind, firm_before, firm_choice, firm_or, fit_option, fit_repeat, firm_list, firm_upper, firm_names}
 use Rattle.dactl_syntax.proofs.TermLaws.{goes_on_term}
@@ -73,7 +73,7 @@ abbrev pub goes_on_items : Sort → Bool
 goes_on_items t = starts_item t || starts_piece t
 
 pub firm_name : (name : Name) → Firm (one (is_name name)) (read_one (is_name name)) (same_sort s.Upper) none
-firm_name name = firm_test (is_name name) (same_sort s.Upper) (λ t h. first_of_and (is s.Upper t) (bytes_eq t.word name.text) h)
+firm_name name = firm_test (is_name name) (same_sort s.Upper) (λ t h. (and_parts (is s.Upper t) (bytes_eq t.word name.text) h).0)
 
 module _ (n : ℕ) where
   firm_named : Firm (named n) (named_at n) (same_sort s.Pattern) none

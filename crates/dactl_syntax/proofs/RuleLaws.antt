@@ -1,5 +1,7 @@
 -- Reading rules is exact for their grammar.
 use Rattle.std.proofs.Common.{◌≡◌, ℕ, suc, Bool, true, false, ◌⊎◌, inl, inr, List, [], ◌∷◌, ◌++◌, length, None, Err, refl, arith}
+use Rattle.std.proofs.Math.Bool.{and-false}
+use Rattle.std.proofs.lemmas.Bool.{and_parts}
 use Rattle.std.specs.Prelude.{◌||◌, ◌&&◌}
 use Rattle.dactl_grammar.specs.declared.fault.Fault.TheVariants.{Unexpected}
 use Rattle.dactl_terminals.specs.declared.token.Sort.{Sort}
@@ -83,11 +85,6 @@ module _ (n : ℕ) where
   unfolding plain_at
   firm_plain = firm_as part_term (firm_term_at n)
 
-  and_both : (a b : Bool) → (a && b) ≡ true → (a ≡ true) × (b ≡ true)
-  and_both true true h = (refl, refl)
-  and_both true false h = absurd cc
-  and_both false b h = absurd cc
-
   -- a term that begins with a name doesn't go on with `:=`
   no_term : (t u : Tok) (l : List Tok) → (term (args n)).begins (t ∷ u ∷ l) → is s.Lower t ≡ true → is s.Becomes u ≡ true → ⊥
   unfolding term_at lower_at
@@ -123,11 +120,7 @@ module _ (n : ℕ) where
 
   after_lower : (t : Tok) (rest : List Tok) → Stops (by goes_on_part) rest → redirects (t ∷ rest) ≡ false
   after_lower t [] h = refl
-  after_lower t (u ∷ rest) h = rw (cleared (same_sort s.Becomes) goes_on_part becomes_ends u.sort h) (and_false (is s.Lower t))
-    where
-      and_false : (b : Bool) → (b && false) ≡ false
-      and_false true = refl
-      and_false false = refl
+  after_lower t (u ∷ rest) h = rw (cleared (same_sort s.Becomes) goes_on_part becomes_ends u.sort h) (and-false (is s.Lower t))
 
   no_redirect : (t u : Tok) (l : List Tok) (a b : Bool) → is s.Lower t ≡ a → is s.Becomes u ≡ b → (term (args n)).begins (t ∷ u ∷ l) → (a && b) ≡ false
   no_redirect t u l true true p q k = absurd (no_term t u l k p q)
@@ -155,8 +148,8 @@ module _ (n : ℕ) where
   begins_plain : (u rest : List Tok) → plain.begins u → redirects (u ++ rest) ≡ true → redirect.begins u
   begins_plain [] rest b h = firm_redirect.fit.exact.empty
   begins_plain (t ∷ []) [] b h = absurd cc
-  begins_plain (t ∷ []) (u ∷ rest) b h = inl (and_both (is s.Lower t) (is s.Becomes u) h).0
-  begins_plain (t ∷ u ∷ l) rest b h = let k = and_both (is s.Lower t) (is s.Becomes u) h in absurd (no_term t u l b k.0 k.1)
+  begins_plain (t ∷ []) (u ∷ rest) b h = inl (and_parts (is s.Lower t) (is s.Becomes u) h).0
+  begins_plain (t ∷ u ∷ l) rest b h = let k = and_parts (is s.Lower t) (is s.Becomes u) h in absurd (no_term t u l b k.0 k.1)
 
   starts_part : (t : Tok) (l : List Tok) → redirect.begins (t ∷ l) ⊎ plain.begins (t ∷ l) → starts_term t.sort ≡ true
   starts_part t l (inl b) = along (same_sort s.Lower) starts_term lower_starts t.sort (firm_redirect.fit.starts t l b)

@@ -3,7 +3,7 @@ use Rattle.std.proofs.Common.{◌≡◌, ℕ, zero, suc, ◌+◌, Bool, true, fa
 use Rattle.std.specs.Prelude.{min, nat_le, unwrap_or, is_some, option_map, ◌&&◌}
 use Rattle.std.specs.List.{AllByRecursion as Each, list_all, enumerate_from}
 use Rattle.std.proofs.lemmas.List.Elements.{All-from_recursion}
-use Rattle.std.proofs.lemmas.Bool.{le-leb}
+use Rattle.std.proofs.lemmas.Bool.{le-leb, and_from}
 use Rattle.dactl_model.specs.Names.{is_upper_name, is_keyword, keywords}
 use Rattle.dactl_tokens.specs.Lexes.{has_header}
 use Rattle.dactl_grammar.specs.Grammar.{one, maybe, means}
@@ -108,14 +108,9 @@ module _ (wide : Bool) where
   marks_of None h = refl
   marks_of (Some m) h = h
 
-  both : (a b : Bool) → a ≡ true → b ≡ true → (a && b) ≡ true
-  both true true e f = refl
-  both true false e f = absurd cc
-  both false b e f = absurd cc
-
   term_by : (m : Marks) (name : Option Name) (n : Option NodeTree) → IsCounted m → IsBody (name, n) → IsWhole (roll-TermTree (record { marks = m; name = name; node = n }))
-  term_by m name None h k = fold-roll-TermTree Bool Bool Bool node_whole arg_whole term_whole (record { marks = m; name = name; node = None }) ∙ both (is_counted m) (has_body name None) h k
-  term_by m name (Some n) h k = fold-roll-TermTree Bool Bool Bool node_whole arg_whole term_whole (record { marks = m; name = name; node = Some n }) ∙ both (is_counted m) (whole_node n) h k
+  term_by m name None h k = fold-roll-TermTree Bool Bool Bool node_whole arg_whole term_whole (record { marks = m; name = name; node = None }) ∙ and_from (is_counted m) (has_body name None) h k
+  term_by m name (Some n) h k = fold-roll-TermTree Bool Bool Bool node_whole arg_whole term_whole (record { marks = m; name = name; node = Some n }) ∙ and_from (is_counted m) (whole_node n) h k
 
   term_whole_of : (v : Option Marks × (Option Name × Option NodeTree)) → IfThere IsCounted v.0 → IsBody v.1 → IsWhole (term_of v)
   term_whole_of v h k = term_by (unwrap_or v.0 marks.Plain) v.1.0 v.1.1 (marks_of v.0 h) k

@@ -74,7 +74,14 @@ mutual
   g_rounds zero = grows_barred opens (is s.Left) (λ v. v.1) (λ _. before (pattern_over barred barred) s.Right) (λ _. read_before (read_pattern (squares_at zero) (rounds_at zero)) s.Right) (λ _. inl (inl (inl (inl tt)))) left_counts
   g_rounds (suc n) = g_round (squares n) (squares (suc n)) (rounds n) (rounds (suc n)) (squares_at n) (squares_at (suc n)) (rounds_at n) (rounds_at (suc n)) (firm_squares n) (firm_rounds n) (g_squares n) (g_rounds n)
 
-g_pattern : (n : ℕ) → Grown (pattern n) (pattern_at n) (pattern (suc n)) (pattern_at (suc n))
+-- what a part of a pattern derives, it derives with one more bracket
+pub base_wider : (n : ℕ) (l : List Tok) (t : PatternTree) → (base (squares n) (rounds n)).whole l t → (base (squares (suc n)) (rounds (suc n))).whole l t
+base_wider n = (g_base (squares n) (squares (suc n)) (rounds n) (rounds (suc n)) (squares_at n) (squares_at (suc n)) (rounds_at n) (rounds_at (suc n)) (firm_squares n) (firm_rounds n) (g_squares n) (g_rounds n)).whole
+
+pub piece_wider : (n : ℕ) (l : List Tok) (t : PatternTree) → (piece (squares n) (rounds n)).whole l t → (piece (squares (suc n)) (rounds (suc n))).whole l t
+piece_wider n = (g_piece (squares n) (squares (suc n)) (rounds n) (rounds (suc n)) (squares_at n) (squares_at (suc n)) (rounds_at n) (rounds_at (suc n)) (firm_squares n) (firm_rounds n) (g_squares n) (g_rounds n)).whole
+
+pub g_pattern : (n : ℕ) → Grown (pattern n) (pattern_at n) (pattern (suc n)) (pattern_at (suc n))
 unfolding pattern_at
 g_pattern n = g_pattern_over (squares n) (squares (suc n)) (rounds n) (rounds (suc n)) (squares_at n) (squares_at (suc n)) (rounds_at n) (rounds_at (suc n)) (firm_squares n) (firm_rounds n) (g_squares n) (g_rounds n)
 

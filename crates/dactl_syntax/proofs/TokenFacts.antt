@@ -86,15 +86,11 @@ named_by true false rest key a b c d = absurd cc
 named_by true true false key a b c d = absurd cc
 named_by true true true true a b c d = absurd cc
 
-letter_is_word : (first a b c : Bool) → first ≡ true → (first || a || b || c) ≡ true
-letter_is_word true a b c e = refl
-letter_is_word false a b c e = absurd cc
-
 pub upper_named : (wide : Bool) (w : List ℕ) → kind_of wide w ≡ Some kinds.Upper → is_upper_name wide w ≡ true
 upper_named wide [] e = absurd (kind_nil wide kinds.Upper e)
 upper_named wide (b ∷ w) e =
     let t = tests_of wide b w e in
-    named_by (is_upper b) (is_word_byte b) (list_all is_word_byte w) (model.is_keyword wide (b ∷ w)) t.0 (letter_is_word (is_upper b) (is_lower b) (is_digit b) (b == 95) t.0) (sym (words_same w) ∙ t.1) (sym (keywords_same wide (b ∷ w)) ∙ t.2)
+    named_by (is_upper b) (is_word_byte b) (list_all is_word_byte w) (model.is_keyword wide (b ∷ w)) t.0 (rw t.0 refl) (sym (words_same w) ∙ t.1) (sym (keywords_same wide (b ∷ w)) ∙ t.2)
 
 -- ---- a character
 
@@ -199,13 +195,9 @@ no_char_sign w h = is_not (same_sort s.Char (sign_sort w)) (ap (is_other s.Char)
 
 char_wide : (wide : Bool) (k : TokenKind) (w : List ℕ) → kind_of wide w ≡ Some k → same_sort s.Char (sort_of false k w) ≡ true → wide ≡ true
 unfolding sort_of same_sort
-char_wide wide kinds.Upper w e h = absurd cc
-char_wide wide kinds.Lower w e h = absurd cc
-char_wide wide kinds.Integer w e h = absurd cc
 char_wide wide kinds.Keyword w e h = keyword_wide wide w e h
 char_wide wide kinds.Sign w e h = absurd (no_char_sign w h)
-char_wide wide kinds.Header w e h = absurd cc
-char_wide wide kinds.Character w e h = absurd cc
+char_wide wide _ w e h = absurd cc
 
 -- ---- no bytes are a Header but the first
 

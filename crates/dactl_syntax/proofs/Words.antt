@@ -1,5 +1,6 @@
 -- Words with a blank behind each are read as the tokens that they are.
 use Rattle.std.proofs.Common.{◌≡◌, ℕ, zero, suc, ◌+◌, ◌<◌, ◌≤◌, Bool, true, false, cond, ◌⊎◌, inl, inr, List, [], ◌∷◌, ◌++◌, length, take, Option, Some, None, refl, sym, ap, subst, ◌∙◌, append_assoc, arith, length-append}
+use Rattle.std.proofs.Math.Bool.{and-false, and-true}
 use Rattle.std.specs.Prelude.{◌&&◌, ◌==◌}
 use Rattle.std.specs.List.{AllByRecursion as Each}
 use Rattle.std.proofs.lemmas.Bool.{eqb-true}
@@ -10,6 +11,7 @@ use Rattle.dactl_tokens.specs.declared.token.TokenKind.TheVariants as kinds
 use Rattle.dactl_tokens.specs.Spelling.{is_upper, is_lower, is_digit, is_word, is_blank, all, sign_kind, is_long_sign, character_kind, kind_of, is_too_wide}
 use Rattle.dactl_tokens.specs.Lexes.{IsGap, none, blank, IsLongest, Scans, ScansText, Lexes, has_header, header}
 use Rattle.dactl_tokens.proofs.OneReading.{kind_nil}
+use Rattle.dactl_tokens.proofs.Longest.{at_quote, past_three}
 use Rattle.dactl_syntax.specs.Canonical.{header_text}
 use Rattle.dactl_terminals.specs.Parts.{Tok}
 use Rattle.dactl_terminals.specs.Seen.{between, tok_of, token_seen}
@@ -76,16 +78,12 @@ space_fails : (p : ℕ → Bool) → p 32 ≡ false → p 10 ≡ false → (b : 
 space_fails p s l b (inl e) = ap p e ∙ s
 space_fails p s l b (inr e) = ap p e ∙ l
 
-and_false : (a : Bool) → (a && false) ≡ false
-and_false true = refl
-and_false false = refl
-
 -- what fails at the space fails over it
 fails_over : (p : ℕ → Bool) (bs more : List ℕ) (b k : ℕ) → p b ≡ false → length bs < k → all p (take k (bs ++ b ∷ more)) ≡ false
 fails_over p [] more b zero h lt = absurd (omega arith)
 fails_over p [] more b (suc k) h lt = rw h refl
 fails_over p (c ∷ bs) more b zero h lt = absurd (omega arith)
-fails_over p (c ∷ bs) more b (suc k) h lt = rw (fails_over p bs more b k h (omega arith)) (and_false (p c))
+fails_over p (c ∷ bs) more b (suc k) h lt = rw (fails_over p bs more b k h (omega arith)) (and-false (p c))
 
 -- tests that no front over the space passes
 record Fails (rest : List ℕ) : Type 0 where
@@ -102,15 +100,11 @@ fails bs more b k space lt = record {
   more = fails_over (λ c. c == 62) bs more b k (space_fails (λ c. c == 62) refl refl b space) lt;
 }
 
-alone : (a : Bool) → (a && true) ≡ false → a ≡ false
-alone true h = cc
-alone false h = refl
-
 no_sign : (b : ℕ) (rest : List ℕ) → Fails rest → sign_kind (b ∷ rest) ≡ None
 unfolding is_long_sign
 no_sign b [] f = let h = f.word in absurd cc
-no_sign b (c ∷ []) f = rw (alone (c == 61) f.equals, alone (c == 62) f.more, alone (is_digit c) f.digit, and_false (b == 58), and_false (b == 61), and_false (b == 45)) refl
-no_sign b (c ∷ d ∷ rest) f = rw (f.digit, and_false (b == 45)) refl
+no_sign b (c ∷ []) f = rw (sym (and-true (c == 61)) ∙ f.equals, sym (and-true (c == 62)) ∙ f.more, sym (and-true (is_digit c)) ∙ f.digit, and-false (b == 58), and-false (b == 61), and-false (b == 45)) refl
+no_sign b (c ∷ d ∷ rest) f = rw (f.digit, and-false (b == 45)) refl
 
 cond_same : (b : Bool) (x : Option TokenKind) → cond b x x ≡ x
 cond_same true x = refl
@@ -122,22 +116,10 @@ no_kind wide b rest q f = rw (f.word, f.digit, q, no_sign b rest f, cond_same (i
 
 -- ---- nor does a character
 
-at_quote : (bs : List ℕ) → kind_of true (39 ∷ bs) ≡ character_kind bs
-unfolding kind_of
-at_quote bs = refl
-
 quote_longest : (bytes more : List ℕ) (k : TokenKind) → character_kind bytes ≡ Some k → IsLongest true (length (39 ∷ bytes)) ((39 ∷ bytes) ++ more)
 quote_longest [] more k e = absurd cc
 quote_longest (c ∷ []) more k e = absurd cc
 quote_longest (c ∷ d ∷ []) more k e = past_three c d more
-  where
-    past_three : (c d : ℕ) (more : List ℕ) (n : ℕ) → 3 < n → n ≤ length (39 ∷ c ∷ d ∷ more) → kind_of true (take n (39 ∷ c ∷ d ∷ more)) ≡ None
-    past_three c d more zero lt le = absurd (omega arith)
-    past_three c d more (suc zero) lt le = absurd (omega arith)
-    past_three c d more (suc (suc zero)) lt le = absurd (omega arith)
-    past_three c d more (suc (suc (suc zero))) lt le = absurd (omega arith)
-    past_three c d [] (suc (suc (suc (suc n)))) lt le = absurd (omega arith)
-    past_three c d (b ∷ more) (suc (suc (suc (suc n)))) lt le = at_quote (c ∷ d ∷ b ∷ take n more)
 quote_longest (c ∷ d ∷ b ∷ bytes) more k e = absurd cc
 
 longest : (wide : Bool) (bytes more : List ℕ) (b : ℕ) (k : TokenKind) → kind_of wide bytes ≡ Some k → IsSpace b → IsLongest wide (length bytes) (bytes ++ b ∷ more)

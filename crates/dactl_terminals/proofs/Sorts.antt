@@ -1,5 +1,6 @@
 -- Facts on the tests of sorts are found by trying each sort.
 use Rattle.std.proofs.Common.{◌≡◌, ℕ, zero, suc, Bool, true, false, cond, List, [], ◌∷◌, Option, Some, None, refl, subst}
+use Rattle.std.proofs.lemmas.Bool.{and_parts}
 use Rattle.std.specs.Prelude.{◌&&◌, not}
 use Rattle.dactl_terminals.specs.declared.token.Sort.{Sort}
 use Rattle.dactl_terminals.specs.declared.token.Sort.TheVariants.{Upper, Lower, Integer, Module, EndModule, Imports, Symbol, Pattern, Rule, Initial, Public, Rewritable, Overwritable, Creatable, Any, Int, Open, Close, Left, Right, Semicolon, Comma, Bar, Colon, Becomes, Equals, Rewrites, Arrow, Star, Hash, Wait, Plus, Minus, Header, Character, Char, Data, Main}
@@ -27,20 +28,12 @@ at [] n = None
 at (s ∷ l) zero = Some s
 at (s ∷ l) (suc n) = at l n
 
-pub first_of_and : (a b : Bool) → (a && b) ≡ true → a ≡ true
-first_of_and true b h = refl
-first_of_and false b h = absurd cc
-
-pub second_of_and : (a b : Bool) → (a && b) ≡ true → b ≡ true
-second_of_and true b h = h
-second_of_and false b h = absurd cc
-
 holds_at : (p : Sort → Bool) (l : List Sort) (n : ℕ) (s : Sort) → at l n ≡ Some s → all p l ≡ true → p s ≡ true
 holds_at p [] n s e h = absurd cc
 holds_at p (t ∷ l) zero s e h =
     let same : t ≡ s = cc in
-    subst (λ (k : Sort). p k ≡ true) same (first_of_and (p t) (all p l) h)
-holds_at p (t ∷ l) (suc n) s e h = holds_at p l n s e (second_of_and (p t) (all p l) h)
+    subst (λ (k : Sort). p k ≡ true) same (and_parts (p t) (all p l) h).0
+holds_at p (t ∷ l) (suc n) s e h = holds_at p l n s e (and_parts (p t) (all p l) h).1
 
 pub each : (p : Sort → Bool) → every p ≡ true → (s : Sort) → p s ≡ true
 each p h Upper = holds_at p sorts 0 Upper refl h

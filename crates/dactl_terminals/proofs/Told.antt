@@ -1,5 +1,6 @@
 -- The tokens of a text as a grammar sees them: which kind has which sort, and what each one's bytes are.
 use Rattle.std.proofs.Common.{◌≡◌, ℕ, ◌+◌, ◌-◌, Bool, true, false, cond, List, [], ◌∷◌, ◌++◌, length, take, drop, Option, Some, None, refl, sym, ap, subst, ◌∙◌, append_assoc, arith, length-append}
+use Rattle.std.proofs.lemmas.Bool.{and_parts}
 use Rattle.std.specs.Prelude.{◌&&◌, is_some, not, min, codes}
 use Rattle.std.specs.List.{AllByRecursion as Each}
 use Rattle.std.specs.Str.{bytes_eq}
@@ -19,7 +20,6 @@ use Rattle.dactl_terminals.specs.contracts.token.Sort.{the_type}
 use Rattle.dactl_terminals.specs.Sort.{same_sort}
 use Rattle.dactl_terminals.specs.Parts.{Tok}
 use Rattle.dactl_terminals.specs.Seen.{between, upper_sort, keyword_sort, sign_sort, sort_of, tok_of, token_seen, tokens_seen}
-use Rattle.dactl_terminals.proofs.Sorts.{first_of_and, second_of_and}
 
 -- the sort of the first word in a table that the bytes are, and another where they are none
 abbrev pub pick : List (List ℕ × Sort) → Sort → List ℕ → Sort
@@ -51,7 +51,7 @@ either p false x y h k = k
 
 pub picked : (p : Sort → Bool) (table : List (List ℕ × Sort)) (other : Sort) (w : List ℕ) → passes p table ≡ true → p other ≡ true → p (pick table other w) ≡ true
 picked p [] other w h k = k
-picked p (row ∷ table) other w h k = either p (bytes_eq w row.0) row.1 (pick table other w) (first_of_and (p row.1) (passes p table) h) (picked p table other w (second_of_and (p row.1) (passes p table) h) k)
+picked p (row ∷ table) other w h k = either p (bytes_eq w row.0) row.1 (pick table other w) (and_parts (p row.1) (passes p table) h).0 (picked p table other w (and_parts (p row.1) (passes p table) h).1 k)
 
 -- ---- sorts that tell the kind
 

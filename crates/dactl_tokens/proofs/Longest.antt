@@ -1,7 +1,7 @@
 -- Which front of the bytes is the longest token.
 use Rattle.std.proofs.Common.{◌≡◌, ℕ, zero, suc, ◌+◌, ◌≤◌, ◌<◌, Bool, true, false, cond, eqb, ◌⊎◌, inl, inr, List, [], ◌∷◌, length, take, drop, get_or, Option, Some, None, refl, sym, ap, subst, ◌∙◌, arith}
 use Rattle.std.specs.Prelude.{◌&&◌, ◌||◌}
-use Rattle.std.proofs.lemmas.Bool.{eqb-true}
+use Rattle.std.proofs.lemmas.Bool.{eqb-true, or_cases, and_parts, and_left, and_right}
 use Rattle.dactl_tokens.specs.declared.token.TokenKind.{TokenKind}
 use Rattle.dactl_tokens.specs.declared.token.TokenKind.TheVariants.{Upper, Lower, Integer, Keyword, Sign, Character}
 use Rattle.dactl_tokens.specs.Spelling.{is_upper, is_lower, is_digit, is_word, all, is_keyword, is_sign_byte, is_long_sign, sign_kind, is_printable, character_kind, kind_of}
@@ -115,31 +115,14 @@ module _ (wide : Bool) where
       longer (suc zero) lt le = absurd (omega arith)
       longer (suc (suc k)) lt le = minus_all b c (take k bs) h m d l ∙ if_all is_digit Integer (take k bs) (r.2 k (omega arith) (omega arith))
 
-  or_is : (a b : Bool) → (a || b) ≡ true → (a ≡ true) ⊎ (b ≡ true)
-  or_is true b h = inl refl
-  or_is false b h = inr h
-
-  both_are : (a b : Bool) → (a && b) ≡ true → (a ≡ true) × (b ≡ true)
-  both_are true true h = (refl, refl)
-  both_are true false h = absurd cc
-  both_are false b h = absurd cc
-
-  and_false_at : (a b : Bool) → b ≡ false → (a && b) ≡ false
-  and_false_at true b h = h
-  and_false_at false b h = refl
-
-  no_and_at : (a b : Bool) → a ≡ false → (a && b) ≡ false
-  no_and_at true b h = absurd cc
-  no_and_at false b h = refl
-
   -- a sign of two bytes is no sign before a digit
   pub long_no_digit : (b c : ℕ) → is_long_sign b c ≡ true → (eqb b 45 && is_digit c) ≡ false
   unfolding is_long_sign
-  long_no_digit b c h = elim (or_is ((eqb b 58 && eqb c 61) || (eqb b 61 && eqb c 62)) (eqb b 45 && eqb c 62) h) [
-    | inr k ↦ (let p = both_are (eqb b 45) (eqb c 62) k in let e = eqb-true c 62 p.1 in let q = ap (λ (x : ℕ). is_digit x) e in and_false_at (eqb b 45) (is_digit c) q)
-    | inl k ↦ elim (or_is (eqb b 58 && eqb c 61) (eqb b 61 && eqb c 62) k) [
-      | inl j ↦ (let p = both_are (eqb b 58) (eqb c 61) j in let e = eqb-true b 58 p.0 in let q = ap (λ (x : ℕ). eqb x 45) e in no_and_at (eqb b 45) (is_digit c) q)
-      | inr j ↦ (let p = both_are (eqb b 61) (eqb c 62) j in let e = eqb-true b 61 p.0 in let q = ap (λ (x : ℕ). eqb x 45) e in no_and_at (eqb b 45) (is_digit c) q)
+  long_no_digit b c h = elim (or_cases ((eqb b 58 && eqb c 61) || (eqb b 61 && eqb c 62)) (eqb b 45 && eqb c 62) h) [
+    | inr k ↦ (let p = and_parts (eqb b 45) (eqb c 62) k in let e = eqb-true c 62 p.1 in let q = ap (λ (x : ℕ). is_digit x) e in and_right (eqb b 45) (is_digit c) q)
+    | inl k ↦ elim (or_cases (eqb b 58 && eqb c 61) (eqb b 61 && eqb c 62) k) [
+      | inl j ↦ (let p = and_parts (eqb b 58) (eqb c 61) j in let e = eqb-true b 58 p.0 in let q = ap (λ (x : ℕ). eqb x 45) e in and_left (eqb b 45) (is_digit c) q)
+      | inr j ↦ (let p = and_parts (eqb b 61) (eqb c 62) j in let e = eqb-true b 61 p.0 in let q = ap (λ (x : ℕ). eqb x 45) e in and_left (eqb b 45) (is_digit c) q)
     ]
   ]
 
@@ -166,9 +149,6 @@ module _ (wide : Bool) where
 
   -- ---- as the code has them
 
-  both_true : (a b : Bool) → (a && b) ≡ true → (a ≡ true) × (b ≡ true)
-  both_true a b h = both_are a b h
-
   nil_of : (l : List ℕ) → length l < 1 → l ≡ []
   nil_of [] h = refl
   nil_of (b ∷ l) h = absurd (omega arith)
@@ -191,7 +171,7 @@ module _ (wide : Bool) where
 
     pub minus_found : (n : ℕ) → is_long_sign b second ≡ false → (eqb b 45 && is_digit second) ≡ true → IsRun is_digit n (tail rest) → IsWord wide (b ∷ rest) Integer (n + 2)
     minus_found n l m r =
-        let k = both_are (eqb b 45) (is_digit second) m in
+        let k = and_parts (eqb b 45) (is_digit second) m in
         let e : suc (suc n) ≡ n + 2 = omega arith in
         subst (λ (z : List ℕ). IsWord wide (b ∷ z) Integer (n + 2)) (sym (cells rest len)) (subst (IsWord wide (b ∷ second ∷ tail rest) Integer) e (minus_word b second (tail rest) n h k.0 k.1 l r))
 
@@ -219,12 +199,12 @@ module _ (wide : Bool) where
 
 -- ---- characters
 
-at_quote : (bs : List ℕ) → kind_of true (39 ∷ bs) ≡ character_kind bs
+pub at_quote : (bs : List ℕ) → kind_of true (39 ∷ bs) ≡ character_kind bs
 unfolding kind_of
 at_quote bs = refl
 
 -- only three bytes are a character
-past_three : (c d : ℕ) (bs : List ℕ) (k : ℕ) → 3 < k → k ≤ length (39 ∷ c ∷ d ∷ bs) → kind_of true (take k (39 ∷ c ∷ d ∷ bs)) ≡ None
+pub past_three : (c d : ℕ) (bs : List ℕ) (k : ℕ) → 3 < k → k ≤ length (39 ∷ c ∷ d ∷ bs) → kind_of true (take k (39 ∷ c ∷ d ∷ bs)) ≡ None
 past_three c d bs zero lt le = absurd (omega arith)
 past_three c d bs (suc zero) lt le = absurd (omega arith)
 past_three c d bs (suc (suc zero)) lt le = absurd (omega arith)

@@ -1,12 +1,12 @@
 -- A text has one reading: the tokens, and the place where it stops.
 use Rattle.std.proofs.Common.{◌≡◌, ℕ, ◌+◌, ◌≤◌, Bool, true, false, eqb, ◌⊎◌, inl, inr, List, [], ◌∷◌, ◌++◌, length, take, Some, None, refl, sym, ap, subst, ◌∙◌, append_assoc, arith, length-append}
 use Rattle.std.specs.Prelude.{◌||◌}
-use Rattle.std.proofs.lemmas.Bool.{eqb-true, cases_lt}
+use Rattle.std.proofs.lemmas.Bool.{eqb-true, cases_lt, or_cases}
 use Rattle.std.proofs.lemmas.List.{take_at}
 use Rattle.dactl_tokens.specs.declared.token.TokenKind.{TokenKind}
 use Rattle.dactl_tokens.specs.declared.token.TokenKind.TheVariants.{Integer}
 use Rattle.dactl_tokens.specs.declared.token.Token.{Token}
-use Rattle.dactl_tokens.specs.Spelling.{is_blank, is_sign_byte, is_long_sign, kind_of, is_too_wide}
+use Rattle.dactl_tokens.specs.Spelling.{is_upper, is_lower, is_digit, is_blank, is_sign_byte, is_long_sign, kind_of, is_too_wide}
 use Rattle.dactl_tokens.specs.Lexes.{Open, IsGap, none, blank, comment, IsLongest, IsTokenAt, Scans, IsBad, IsTooWide}
 use Rattle.dactl_tokens.specs.Found.{Halts}
 
@@ -92,51 +92,28 @@ pub record SameReading (ts us : List Token) (e f : ℕ) (r s : List ℕ) : Type 
 module _ (wide : Bool) where
   -- ---- no token begins as a gap does
 
-  no_32 : (bs : List ℕ) → kind_of wide (32 ∷ bs) ≡ None
-  unfolding kind_of is_sign_byte is_long_sign
-  no_32 [] = refl
-  no_32 (c ∷ []) = refl
-  no_32 (c ∷ d ∷ bs) = refl
-
-  no_9 : (bs : List ℕ) → kind_of wide (9 ∷ bs) ≡ None
-  unfolding kind_of is_sign_byte is_long_sign
-  no_9 [] = refl
-  no_9 (c ∷ []) = refl
-  no_9 (c ∷ d ∷ bs) = refl
-
-  no_10 : (bs : List ℕ) → kind_of wide (10 ∷ bs) ≡ None
-  unfolding kind_of is_sign_byte is_long_sign
-  no_10 [] = refl
-  no_10 (c ∷ []) = refl
-  no_10 (c ∷ d ∷ bs) = refl
-
-  no_13 : (bs : List ℕ) → kind_of wide (13 ∷ bs) ≡ None
-  unfolding kind_of is_sign_byte is_long_sign
-  no_13 [] = refl
-  no_13 (c ∷ []) = refl
-  no_13 (c ∷ d ∷ bs) = refl
+  no_start : (b : ℕ) (bs : List ℕ) → is_upper b ≡ false → is_lower b ≡ false → is_digit b ≡ false → eqb b 39 ≡ false → eqb b 45 ≡ false → is_sign_byte b ≡ false → ((c : ℕ) → is_long_sign b c ≡ false) → kind_of wide (b ∷ bs) ≡ None
+  unfolding kind_of
+  no_start b [] u l d q m s long = rw (u, l, d, q, s) refl
+  no_start b (c ∷ []) u l d q m s long = rw (u, l, d, q, m, long c) refl
+  no_start b (c ∷ e ∷ bs) u l d q m s long = rw (u, l, d, q, m) refl
 
   no_123 : (bs : List ℕ) → kind_of wide (123 ∷ bs) ≡ None
-  unfolding kind_of is_sign_byte is_long_sign
-  no_123 [] = refl
-  no_123 (c ∷ []) = refl
-  no_123 (c ∷ d ∷ bs) = refl
+  unfolding is_sign_byte is_long_sign
+  no_123 bs = no_start 123 bs refl refl refl refl refl refl (λ c. refl)
 
   at_value : (b n : ℕ) (bs : List ℕ) → eqb b n ≡ true → kind_of wide (n ∷ bs) ≡ None → kind_of wide (b ∷ bs) ≡ None
   at_value b n bs h e = subst (λ (k : ℕ). kind_of wide (k ∷ bs) ≡ None) (sym (eqb-true b n h)) e
 
-  or_cases : (a b : Bool) → (a || b) ≡ true → (a ≡ true) ⊎ (b ≡ true)
-  or_cases true b h = inl refl
-  or_cases false b h = inr h
-
   no_blank : (b : ℕ) (bs : List ℕ) → is_blank b ≡ true → kind_of wide (b ∷ bs) ≡ None
+  unfolding is_sign_byte is_long_sign
   no_blank b bs h = elim (or_cases (eqb b 32 || eqb b 9 || eqb b 10) (eqb b 13) h) [
-    | inr k ↦ at_value b 13 bs k (no_13 bs)
+    | inr k ↦ at_value b 13 bs k (no_start 13 bs refl refl refl refl refl refl (λ c. refl))
     | inl k ↦ elim (or_cases (eqb b 32 || eqb b 9) (eqb b 10) k) [
-      | inr k ↦ at_value b 10 bs k (no_10 bs)
+      | inr k ↦ at_value b 10 bs k (no_start 10 bs refl refl refl refl refl refl (λ c. refl))
       | inl k ↦ elim (or_cases (eqb b 32) (eqb b 9) k) [
-        | inr k ↦ at_value b 9 bs k (no_9 bs)
-        | inl k ↦ at_value b 32 bs k (no_32 bs)
+        | inr k ↦ at_value b 9 bs k (no_start 9 bs refl refl refl refl refl refl (λ c. refl))
+        | inl k ↦ at_value b 32 bs k (no_start 32 bs refl refl refl refl refl refl (λ c. refl))
       ]
     ]
   ]

@@ -1,8 +1,10 @@
 -- Steps over gaps and runs.
 use Rattle.std.proofs.Common.{◌≡◌, ◌≢◌, ℕ, zero, suc, ◌+◌, ◌-◌, ◌≤◌, ◌<◌, Bool, true, false, List, [], ◌∷◌, ◌++◌, length, take, drop, get_or, Option, Some, None, refl, sym, ap, subst, ◌∙◌, append_assoc, arith, length-append}
+use Rattle.std.proofs.Math.Bool.{and-false}
+use Rattle.std.proofs.lemmas.Bool.{and_from, and_parts}
 use Rattle.std.specs.Prelude.{◌&&◌, IfSome}
 use Rattle.std.specs.Borrow.{Bor}
-use Rattle.std.proofs.lemmas.List.{append-nil}
+use Rattle.std.proofs.lemmas.List.{append-nil, take_all}
 use Rattle.dactl_tokens.specs.Spelling.{is_blank, all}
 use Rattle.dactl_tokens.specs.Lexes.{Open, IsGap, none, blank, comment}
 use Rattle.dactl_tokens.specs.Found.{Skips, Closes}
@@ -63,51 +65,28 @@ skips_more bytes rest after p q = record {
 
 -- ---- runs
 
-and_true : (a b : Bool) → a ≡ true → b ≡ true → (a && b) ≡ true
-and_true true true p q = refl
-and_true true false p q = absurd cc
-and_true false b p q = absurd cc
-
-and_first : (a b : Bool) → (a && b) ≡ true → a ≡ true
-and_first true b h = refl
-and_first false b h = absurd cc
-
-and_second : (a b : Bool) → (a && b) ≡ true → b ≡ true
-and_second true b h = h
-and_second false b h = absurd cc
-
 pub all_more : (p : ℕ → Bool) (bytes : List ℕ) (n : ℕ) → n < length bytes → all p (take n bytes) ≡ true → p (get_or bytes n 0) ≡ true → all p (take (n + 1) bytes) ≡ true
 all_more p [] n lt h k = absurd (omega arith)
-all_more p (b ∷ bs) zero lt h k = and_true (p b) true k refl
+all_more p (b ∷ bs) zero lt h k = and_from (p b) true k refl
 all_more p (b ∷ bs) (suc n) lt h k =
     let e : suc n + 1 ≡ suc (n + 1) = omega arith in
-    let r = all_more p bs n (omega arith) (and_second (p b) (all p (take n bs)) h) k in
-    rw e (and_true (p b) (all p (take (n + 1) bs)) (and_first (p b) (all p (take n bs)) h) r)
-
-and_false : (a : Bool) → (a && false) ≡ false
-and_false true = refl
-and_false false = refl
+    let r = all_more p bs n (omega arith) (and_parts (p b) (all p (take n bs)) h).1 k in
+    rw e (and_from (p b) (all p (take (n + 1) bs)) (and_parts (p b) (all p (take n bs)) h).0 r)
 
 pub all_stops : (p : ℕ → Bool) (bytes : List ℕ) (n k : ℕ) → n < length bytes → p (get_or bytes n 0) ≡ false → n < k → all p (take k bytes) ≡ false
 all_stops p [] n k lt h le = absurd (omega arith)
 all_stops p (b ∷ bs) n zero lt h le = absurd (omega arith)
 all_stops p (b ∷ bs) zero (suc k) lt h le = rw h refl
-all_stops p (b ∷ bs) (suc n) (suc k) lt h le = rw (all_stops p bs n k (omega arith) h (omega arith)) (and_false (p b))
+all_stops p (b ∷ bs) (suc n) (suc k) lt h le = rw (all_stops p bs n k (omega arith) h (omega arith)) (and-false (p b))
 
 -- ---- as a slice's pattern cuts
 
 abbrev pub tail : List ℕ → List ℕ
 tail bytes = take (length bytes - 1) (drop 1 bytes)
 
-take_whole : (bs : List ℕ) (n : ℕ) → n ≡ length bs → take n bs ≡ bs
-take_whole [] zero e = refl
-take_whole [] (suc n) e = refl
-take_whole (b ∷ bs) zero e = absurd (omega arith)
-take_whole (b ∷ bs) (suc n) e = ap (λ (k : List ℕ). b ∷ k) (take_whole bs n (omega arith))
-
 pub cells : (bytes : List ℕ) → 1 ≤ length bytes → bytes ≡ get_or bytes 0 0 ∷ tail bytes
 cells [] h = absurd (omega arith)
-cells (b ∷ bs) h = ap (λ (k : List ℕ). b ∷ k) (sym (take_whole bs (length (b ∷ bs) - 1) (omega arith)))
+cells (b ∷ bs) h = ap (λ (k : List ℕ). b ∷ k) (sym (take_all (length (b ∷ bs) - 1) bs (omega arith)))
 
 shorter_tail : (bytes : List ℕ) → 1 ≤ length bytes → length (tail bytes) < length bytes
 shorter_tail bytes h = let e = ap length (cells bytes h) in omega arith
