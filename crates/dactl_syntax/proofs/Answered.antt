@@ -38,24 +38,14 @@ read_tree bytes tokens v e = record { derives = read_derives text_laws most_open
 tree_read : (bytes : List ℕ) (tokens : List Token) (t : Text) → IsTree bytes tokens t → reading (tokens_seen bytes tokens) ≡ Ok (t.language, t.modules)
 tree_read bytes tokens t w = derives_read text_laws most_open (tokens_seen bytes tokens) (t.language, t.modules) w.derives
 
-text_is : (t u : Text) → t.language ≡ u.language → t.modules ≡ u.modules → t.length ≡ u.length → t ≡ u
-text_is t u l m n =
-    ap (λ (k : ℕ). record { language = k; modules = t.modules; length = t.length }) l
-    ∙ ap (λ (k : List Module). record { language = u.language; modules = k; length = t.length }) m
-    ∙ ap (λ (k : ℕ). record { language = u.language; modules = u.modules; length = k }) n
-
 -- what is read alike is the same
 same_text : (l : List Tok) (a b : Text) → reading l ≡ Ok (a.language, a.modules) → reading l ≡ Ok (b.language, b.modules) → a.length ≡ b.length → a ≡ b
 same_text l a b p q n =
     let pair : (a.language, a.modules) ≡ (b.language, b.modules) = cc in
-    text_is a b (ap (λ (v : ℕ × List Module). v.0) pair) (ap (λ (v : ℕ × List Module). v.1) pair) n
+    ap (λ (v : ℕ × List Module). record { language = v.0; modules = v.1; length = a.length }) pair ∙ ap (λ (k : ℕ). record { language = b.language; modules = b.modules; length = k }) n
 
 pub read_only : (bytes : List ℕ) (tokens : List Token) (v : ℕ × List Module) → reading (tokens_seen bytes tokens) ≡ Ok v → (t : Text) → IsTree bytes tokens t → record { language = v.0; modules = v.1; length = length bytes } ≡ t
-read_only bytes tokens v e t w =
-    let f = tree_read bytes tokens t w in
-    let language : v.0 ≡ t.language = cc in
-    let modules : v.1 ≡ t.modules = cc in
-    text_is (record { language = v.0; modules = v.1; length = length bytes }) t language modules (sym w.length)
+read_only bytes tokens v e t w = same_text (tokens_seen bytes tokens) (record { language = v.0; modules = v.1; length = length bytes }) t e (tree_read bytes tokens t w) (sym w.length)
 
 -- ---- a fault
 

@@ -50,11 +50,10 @@ fn class(out: &mut Vec<u8>, class: Class) -> Result<(), AllocError>
     ensures { OnOk result (out.new.items ≡ out.old.items ++ class_text class) }
 {
     match class {
-        Class::Rewritable => word(out, b"REWRITABLE".as_slice())?,
-        Class::Overwritable => word(out, b"OVERWRITABLE".as_slice())?,
-        Class::Creatable => word(out, b"CREATABLE".as_slice())?,
+        Class::Rewritable => word(out, b"REWRITABLE".as_slice()),
+        Class::Overwritable => word(out, b"OVERWRITABLE".as_slice()),
+        Class::Creatable => word(out, b"CREATABLE".as_slice()),
     }
-    Ok(())
 }
 
 fn public_class(out: &mut Vec<u8>, public: Option<(Class, Place)>) -> Result<(), AllocError>
@@ -64,8 +63,7 @@ fn public_class(out: &mut Vec<u8>, public: Option<(Class, Place)>) -> Result<(),
         None => Ok(()),
         Some((importers, _)) => {
             word(out, b"PUBLIC".as_slice())?;
-            class(out, importers)?;
-            Ok(())
+            class(out, importers)
         }
     }
 }
@@ -143,8 +141,7 @@ fn module(out: &mut Vec<u8>, written: &Module) -> Result<(), AllocError>
     items(out, written.items.as_slice())?;
     word(out, b"ENDMODULE".as_slice())?;
     name(out, &written.name)?;
-    line_end(out)?;
-    Ok(())
+    line_end(out)
 }
 
 fn modules(out: &mut Vec<u8>, modules: &[Module]) -> Result<(), AllocError>

@@ -35,10 +35,9 @@ fn sign(out: &mut Vec<u8>, sign: Sign) -> Result<(), AllocError>
     ensures { OnOk result (out.new.items ≡ out.old.items ++ sign_text sign) }
 {
     match sign {
-        Sign::Plus => word(out, b"+".as_slice())?,
-        Sign::Minus => word(out, b"-".as_slice())?,
+        Sign::Plus => word(out, b"+".as_slice()),
+        Sign::Minus => word(out, b"-".as_slice()),
     }
-    Ok(())
 }
 
 /// Writes a pattern, in round brackets where it needs them.
@@ -53,11 +52,9 @@ pub fn pattern(out: &mut Vec<u8>, tree: &PatternTree, standing: Standing) -> Res
     if is_bracketed(tree, standing) {
         word(out, b"(".as_slice())?;
         bare(out, tree)?;
-        word(out, b")".as_slice())?;
-        return Ok(());
+        return word(out, b")".as_slice());
     }
-    bare(out, tree)?;
-    Ok(())
+    bare(out, tree)
 }
 
 #[cycle(write_patterns)]
@@ -65,26 +62,11 @@ fn bare(out: &mut Vec<u8>, tree: &PatternTree) -> Result<(), AllocError>
     ensures { OnOk result (out.new.items ≡ out.old.items ++ (piece_of tree.now).bytes) }
 {
     match tree {
-        PatternTree::Any => {
-            word(out, b"ANY".as_slice())?;
-            Ok(())
-        }
-        PatternTree::Int => {
-            word(out, b"INT".as_slice())?;
-            Ok(())
-        }
-        PatternTree::Char => {
-            word(out, b"CHAR".as_slice())?;
-            Ok(())
-        }
-        PatternTree::Integer { value } => {
-            integer(out, *value)?;
-            Ok(())
-        }
-        PatternTree::Letter { value } => {
-            character(out, *value)?;
-            Ok(())
-        }
+        PatternTree::Any => word(out, b"ANY".as_slice()),
+        PatternTree::Int => word(out, b"INT".as_slice()),
+        PatternTree::Char => word(out, b"CHAR".as_slice()),
+        PatternTree::Integer { value } => integer(out, *value),
+        PatternTree::Letter { value } => character(out, *value),
         PatternTree::Sym { name: symbol, args } => {
             name(out, symbol)?;
             if args.is_empty() {
@@ -92,26 +74,20 @@ fn bare(out: &mut Vec<u8>, tree: &PatternTree) -> Result<(), AllocError>
             }
             word(out, b"[".as_slice())?;
             pieces(out, args.as_slice())?;
-            word(out, b"]".as_slice())?;
-            Ok(())
+            word(out, b"]".as_slice())
         }
-        PatternTree::Variable { name: variable } => {
-            name(out, variable)?;
-            Ok(())
-        }
+        PatternTree::Variable { name: variable } => name(out, variable),
         PatternTree::Binder {
             name: variable,
             inner,
         } => {
             name(out, variable)?;
             word(out, b":".as_slice())?;
-            pattern(out, inner.get(), Standing::Bound)?;
-            Ok(())
+            pattern(out, inner.get(), Standing::Bound)
         }
         PatternTree::Chain { first, rest } => {
             pattern(out, first.get(), Standing::Inner)?;
-            links(out, rest.as_slice())?;
-            Ok(())
+            links(out, rest.as_slice())
         }
     }
 }

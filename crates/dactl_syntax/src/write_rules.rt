@@ -14,15 +14,11 @@ fn part(out: &mut Vec<u8>, part: &Part) -> Result<(), AllocError>
     ensures { OnOk result (out.new.items ≡ out.old.items ++ part_text part.now) }
 {
     match part {
-        Part::Term { term: value } => {
-            term(out, value)?;
-            Ok(())
-        }
+        Part::Term { term: value } => term(out, value),
         Part::Redirect { left, term: value } => {
             name(out, left)?;
             word(out, b":=".as_slice())?;
-            term(out, value)?;
-            Ok(())
+            term(out, value)
         }
     }
 }
@@ -42,11 +38,9 @@ fn arrow(out: &mut Vec<u8>, redirects: bool) -> Result<(), AllocError>
     ensures { OnOk result (out.new.items ≡ out.old.items ++ arrow_text redirects) }
 {
     if redirects {
-        word(out, b"=>".as_slice())?;
-        return Ok(());
+        return word(out, b"=>".as_slice());
     }
-    word(out, b"->".as_slice())?;
-    Ok(())
+    word(out, b"->".as_slice())
 }
 
 fn rule(out: &mut Vec<u8>, rule: &RuleTree) -> Result<(), AllocError>
@@ -54,8 +48,7 @@ fn rule(out: &mut Vec<u8>, rule: &RuleTree) -> Result<(), AllocError>
 {
     pattern(out, &rule.pattern, Standing::Whole)?;
     arrow(out, rule.redirects)?;
-    parts(out, rule.parts.as_slice())?;
-    Ok(())
+    parts(out, rule.parts.as_slice())
 }
 
 fn rules(out: &mut Vec<u8>, rules: &[RuleTree]) -> Result<(), AllocError>
@@ -78,6 +71,5 @@ pub fn group(out: &mut Vec<u8>, group: &Group) -> Result<(), AllocError>
     ensures { OnOk result (out.new.items ≡ out.old.items ++ group_text group.now) }
 {
     rules(out, group.rules.as_slice())?;
-    line_end(out)?;
-    Ok(())
+    line_end(out)
 }

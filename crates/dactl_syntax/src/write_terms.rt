@@ -22,11 +22,10 @@ fn marks(out: &mut Vec<u8>, marks: Marks) -> Result<(), AllocError>
     ensures { OnOk result (out.new.items ≡ out.old.items ++ marks_text marks) }
 {
     match marks {
-        Marks::Plain => {}
-        Marks::Star { .. } => word(out, b"*".as_slice())?,
-        Marks::Hashes { count, .. } => hashes(out, count)?,
+        Marks::Plain => Ok(()),
+        Marks::Star { .. } => word(out, b"*".as_slice()),
+        Marks::Hashes { count, .. } => hashes(out, count),
     }
-    Ok(())
 }
 
 #[cycle(write_terms)]
@@ -34,14 +33,8 @@ fn node(out: &mut Vec<u8>, tree: &NodeTree) -> Result<(), AllocError>
     ensures { OnOk result (out.new.items ≡ out.old.items ++ node_text tree.now) }
 {
     match tree {
-        NodeTree::Integer { value, .. } => {
-            integer(out, *value)?;
-            Ok(())
-        }
-        NodeTree::Letter { value, .. } => {
-            character(out, *value)?;
-            Ok(())
-        }
+        NodeTree::Integer { value, .. } => integer(out, *value),
+        NodeTree::Letter { value, .. } => character(out, *value),
         NodeTree::Sym { name: symbol, args } => {
             name(out, symbol)?;
             if args.is_empty() {
@@ -49,8 +42,7 @@ fn node(out: &mut Vec<u8>, tree: &NodeTree) -> Result<(), AllocError>
             }
             word(out, b"[".as_slice())?;
             arg_list(out, args.as_slice())?;
-            word(out, b"]".as_slice())?;
-            Ok(())
+            word(out, b"]".as_slice())
         }
     }
 }
@@ -71,11 +63,9 @@ fn arg(out: &mut Vec<u8>, tree: &ArgTree) -> Result<(), AllocError>
 {
     if tree.waits {
         word(out, b"^".as_slice())?;
-        term(out, &tree.term)?;
-        return Ok(());
+        return term(out, &tree.term);
     }
-    term(out, &tree.term)?;
-    Ok(())
+    term(out, &tree.term)
 }
 
 /// Writes a term.
@@ -90,19 +80,12 @@ pub fn term(out: &mut Vec<u8>, tree: &TermTree) -> Result<(), AllocError>
     marks(out, tree.marks)?;
     match (&tree.name, &tree.node) {
         (None, None) => Ok(()),
-        (None, Some(made)) => {
-            node(out, made)?;
-            Ok(())
-        }
-        (Some(named), None) => {
-            name(out, named)?;
-            Ok(())
-        }
+        (None, Some(made)) => node(out, made),
+        (Some(named), None) => name(out, named),
         (Some(named), Some(made)) => {
             name(out, named)?;
             word(out, b":".as_slice())?;
-            node(out, made)?;
-            Ok(())
+            node(out, made)
         }
     }
 }

@@ -78,8 +78,7 @@ pub fn before(out: &mut Vec<u8>, index: usize, token: &[u8]) -> Result<(), Alloc
         canonical.before_text index (canonical.word token.now)) }
 {
     if index > 0 {
-        word(out, token)?;
-        return Ok(());
+        return word(out, token);
     }
     Ok(())
 }

@@ -51,15 +51,6 @@ module _ (wide : Bool) where
     longest = run_longest p b bs n kind h r;
   }
 
-  pub upper_word : (b : ℕ) (bs : List ℕ) (n : ℕ) → is_upper b ≡ true → IsRun is_word n bs → IsWord wide (b ∷ bs) (cond (is_keyword wide (b ∷ take n bs)) Keyword Upper) (suc n)
-  upper_word b bs n h r = run_word is_word b bs n (λ cs. cond (is_keyword wide (b ∷ cs)) Keyword Upper) (upper_kind b h) r
-
-  pub lower_word : (b : ℕ) (bs : List ℕ) (n : ℕ) → is_upper b ≡ false → is_lower b ≡ true → IsRun is_word n bs → IsWord wide (b ∷ bs) Lower (suc n)
-  lower_word b bs n h k r = run_word is_word b bs n (λ _. Lower) (lower_kind b h k) r
-
-  pub digit_word : (b : ℕ) (bs : List ℕ) (n : ℕ) → is_upper b ≡ false → is_lower b ≡ false → is_digit b ≡ true → IsRun is_digit n bs → IsWord wide (b ∷ bs) Integer (suc n)
-  digit_word b bs n h k d r = run_word is_digit b bs n (λ _. Integer) (digit_kind b h k d) r
-
   -- ---- signs
 
   and_no : (a b c : Bool) → (a && b) ≡ false → (a && (b && c)) ≡ false
@@ -186,13 +177,13 @@ module _ (wide : Bool) where
       let one : n + 1 ≡ suc n = omega arith in
       let front_is : front ≡ b ∷ take n rest = f ∙ ap (take (n + 1)) e ∙ ap (λ (m : ℕ). take m (b ∷ rest)) one in
       let key : is_keyword wide (b ∷ take n rest) ≡ x = ap (is_keyword wide) (sym front_is) ∙ k in
-      subst (λ (y : Bool). IsWord wide (b ∷ rest) (cond y Keyword Upper) (n + 1)) key (plus_one (b ∷ rest) (cond (is_keyword wide (b ∷ take n rest)) Keyword Upper) n (upper_word b rest n u r))
+      subst (λ (y : Bool). IsWord wide (b ∷ rest) (cond y Keyword Upper) (n + 1)) key (plus_one (b ∷ rest) (cond (is_keyword wide (b ∷ take n rest)) Keyword Upper) n (run_word is_word b rest n (λ cs. cond (is_keyword wide (b ∷ cs)) Keyword Upper) (upper_kind b u) r))
 
   pub lower_found : (b : ℕ) (rest : List ℕ) (n : ℕ) → is_upper b ≡ false → is_lower b ≡ true → IsRun is_word n rest → IsWord wide (b ∷ rest) Lower (n + 1)
-  lower_found b rest n u l r = plus_one (b ∷ rest) Lower n (lower_word b rest n u l r)
+  lower_found b rest n u l r = plus_one (b ∷ rest) Lower n (run_word is_word b rest n (λ _. Lower) (lower_kind b u l) r)
 
   pub digit_found : (b : ℕ) (rest : List ℕ) (n : ℕ) → is_upper b ≡ false → is_lower b ≡ false → is_digit b ≡ true → IsRun is_digit n rest → IsWord wide (b ∷ rest) Integer (n + 1)
-  digit_found b rest n u l d r = plus_one (b ∷ rest) Integer n (digit_word b rest n u l d r)
+  digit_found b rest n u l d r = plus_one (b ∷ rest) Integer n (run_word is_digit b rest n (λ _. Integer) (digit_kind b u l d) r)
 
   pub no_word_empty : (bytes : List ℕ) → length bytes < 1 → NoWord wide bytes
   no_word_empty bytes len = subst (NoWord wide) (sym (nil_of bytes len)) no_word_nil

@@ -15,9 +15,6 @@ pub record Passed (bytes rest : List ℕ) : Type 0 where
   pub is_open : Open body
   pub parts : bytes ≡ body ++ rest
 
-pub passed_none : (bytes : List ℕ) → Passed bytes bytes
-passed_none bytes = record { body = []; is_open = tt; parts = refl }
-
 open_push : (body : List ℕ) (b : ℕ) → Open body → b ≢ 125 → Open (body ++ b ∷ [])
 open_push [] b o h = (h, tt)
 open_push (c ∷ body) b o h = (o.0, open_push body b o.1 h)
@@ -28,15 +25,6 @@ passed_more bytes rest after b p e h = record {
   is_open = open_push p.body b p.is_open h;
   parts = p.parts ∙ ap (λ (k : List ℕ). p.body ++ k) e ∙ sym (append_assoc p.body (b ∷ []) after);
 }
-
-pub passed_closes : (bytes rest after : List ℕ) (b : ℕ) → Passed bytes rest → rest ≡ b ∷ after → b ≡ 125 → Closes bytes after
-passed_closes bytes rest after b p e h = record { body = p.body; is_open = p.is_open; parts = p.parts ∙ ap (λ (k : List ℕ). p.body ++ k) (e ∙ ap (λ (x : ℕ). x ∷ after) h) }
-
-pub passed_shorter : (bytes rest after : List ℕ) (b : ℕ) → Passed bytes rest → rest ≡ b ∷ after → length after < length bytes
-passed_shorter bytes rest after b p e = omega (arith, ap length p.parts, length-append p.body rest, ap length e)
-
-pub passed_all : (bytes rest : List ℕ) → Passed bytes rest → rest ≡ [] → Open bytes
-passed_all bytes rest p e = subst Open (sym (p.parts ∙ ap (λ (k : List ℕ). p.body ++ k) e ∙ append-nil p.body)) p.is_open
 
 pub skips_none : (bytes : List ℕ) → Skips bytes bytes
 skips_none bytes = record { gap = []; is_gap = none; parts = refl }

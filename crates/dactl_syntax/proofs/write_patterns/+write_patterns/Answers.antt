@@ -11,13 +11,13 @@ pub links-loop-link-preserved : goal.links-loop-link-preserved
 links-loop-link-preserved t c = step_more tail_text c.args.rest.now c.loop-link.link-index c.link-item.result c.args.out.now.items c.loop-link.out.items c.pattern.new.out.items c.loop-link-test.true c.loop-link.invariant c.link-item.is
     (two_parts c.loop-link.out.items c.sign.new.out.items c.pattern.new.out.items (sign_text c.link-item.result.0) (pattern_text standing.Inner c.link-item.result.1) c.in_ok-sign.ensures c.in_ok-pattern.ensures)
 
-pub bare-returns-in_ok-pattern-in-Binder : goal.bare-returns-in_ok-pattern-in-Binder
-bare-returns-in_ok-pattern-in-Binder t c = rw (c.in-Binder.is, piece_binder c.in-Binder.variable c.in-Binder.inner) (search (rules, append_assoc))
+pub bare-returns-in_ok-word-in-Binder : goal.bare-returns-in_ok-word-in-Binder
+bare-returns-in_ok-word-in-Binder t c = rw (c.in-Binder.is, piece_binder c.in-Binder.variable c.in-Binder.inner) (search (rules, append_assoc))
 
-pub bare-returns-in_ok-links-in-Chain : goal.bare-returns-in_ok-links-in-Chain
-bare-returns-in_ok-links-in-Chain t c = rw (c.in-Chain.is, piece_chain c.in-Chain.first c.in-Chain.rest) (search (rules, append_assoc))
+pub bare-returns-in_ok-pattern-in-Chain : goal.bare-returns-in_ok-pattern-in-Chain
+bare-returns-in_ok-pattern-in-Chain t c = rw (c.in-Chain.is, piece_chain c.in-Chain.first c.in-Chain.rest) (search (rules, append_assoc))
 
-pub bare-returns-in_ok-word-in-Sym-2 : goal.bare-returns-in_ok-word-in-Sym-2
-bare-returns-in_ok-word-in-Sym-2 t c =
+pub bare-returns-in_ok-pieces-in-Sym : goal.bare-returns-in_ok-pieces-in-Sym
+bare-returns-in_ok-pieces-in-Sym t c =
     let some : c.in-Sym.args ≡ [] → ⊥ = search rules in
     rw (c.in-Sym.is, piece_sym c.in-Sym.symbol c.in-Sym.args, bracketed_some (pattern_text standing.Inner) c.in-Sym.args some) (search (rules, append_assoc))
