@@ -65,10 +65,7 @@ module _ (wide : Bool) where
   public_class_back (Some c) = back_some (λ u. option_map bare_class u ≡ Some (bare_class c)) (λ v h. ap (λ (z : Class). Some (z, nowhere)) h) (back_behind s.Public (sign_back wide s.Public) (class_back c.0))
 
   same_symbols : (v u : ClassHere × (Option ClassHere × List Name)) → u.0.0 ≡ v.0.0 → option_map bare_class u.1.0 ≡ option_map bare_class v.1.0 → map bare_name u.1.1 ≡ map bare_name v.1.1 → bare_item (symbols_of u) ≡ bare_item (symbols_of v)
-  same_symbols v u e f g =
-      ap (λ (z : Class). item.Symbols z (option_map bare_class u.1.0) (map bare_name u.1.1)) e
-      ∙ ap (λ (z : Option ClassHere). item.Symbols v.0.0 z (map bare_name u.1.1)) f
-      ∙ ap (λ (z : List Name). item.Symbols v.0.0 (option_map bare_class v.1.0) z) g
+  same_symbols v u e f g = rw (e, f, g) refl
 
   symbols_read : ReadsBack wide symbols item_text bare_item
   symbols_read = holds_means symbols_of (λ i. Back wide symbols (item_text i) (SameBy bare_item i))
@@ -82,10 +79,7 @@ module _ (wide : Bool) where
   public_mark false = back_means is_some (λ u. u ≡ false) (λ o h. h) (back_none (λ o. is_some o ≡ false) refl)
 
   same_named : (v u : Bool × (Name × PatternTree)) → u.0 ≡ v.0 → bare_name u.1.0 ≡ bare_name v.1.0 → bare_pattern u.1.1 ≡ bare_pattern v.1.1 → bare_item (pattern_named_of u) ≡ bare_item (pattern_named_of v)
-  same_named v u e f g =
-      ap (λ (z : Bool). item.Named z (bare_name u.1.0) (bare_pattern u.1.1)) e
-      ∙ ap (λ (z : Name). item.Named v.0 z (bare_pattern u.1.1)) f
-      ∙ ap (λ (z : PatternTree). item.Named v.0 (bare_name v.1.0) z) g
+  same_named v u e f g = rw (e, f, g) refl
 
   module _ (n : ℕ) where
     named_read : ReadsBack wide (named n) item_text bare_item

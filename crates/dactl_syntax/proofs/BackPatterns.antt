@@ -146,11 +146,7 @@ module _ (wide : Bool) where
 
   same_chain : (first other : PatternTree) (l : Sign × PatternTree) (rest others : List (Sign × PatternTree)) → bare_pattern other ≡ bare_pattern first → map bare_link others ≡ map bare_link (l ∷ rest) → bare_pattern (chain_at other others) ≡ bare_pattern (p.Chain first (l ∷ rest))
   same_chain first other l rest [] e f = absurd cc
-  same_chain first other l rest (k ∷ others) e f =
-      bare_chain other (k ∷ others)
-      ∙ ap (λ (z : PatternTree). p.Chain z (map bare_link (k ∷ others))) e
-      ∙ ap (λ (z : List (Sign × PatternTree)). p.Chain (bare_pattern first) z) f
-      ∙ sym (bare_chain first (l ∷ rest))
+  same_chain first other l rest (k ∷ others) e f = rw (bare_chain other (k ∷ others), bare_chain first (l ∷ rest), e, f) refl
 
   -- ---- the productions
 

@@ -128,12 +128,7 @@ module _ (wide : Bool) where
       bare_sym other others ∙ ap (λ (z : Name). node_tree.Sym z (map bare_arg others)) e ∙ ap (λ (z : List ArgTree). node_tree.Sym (bare_name name) z) f ∙ sym (bare_sym name given)
 
   same_term : (m l : Marks) (name other : Option Name) (n o : Option NodeTree) → bare_marks l ≡ bare_marks m → option_map bare_name other ≡ option_map bare_name name → option_map bare_node o ≡ option_map bare_node n → bare_term (a_term l other o) ≡ bare_term (a_term m name n)
-  same_term m l name other n o e f g =
-      bare_term_is l other o
-      ∙ ap (λ (z : Marks). a_term z (option_map bare_name other) (option_map bare_node o)) e
-      ∙ ap (λ (z : Option Name). a_term (bare_marks m) z (option_map bare_node o)) f
-      ∙ ap (λ (z : Option NodeTree). a_term (bare_marks m) (option_map bare_name name) z) g
-      ∙ sym (bare_term_is m name n)
+  same_term m l name other n o e f g = rw (bare_term_is l other o, bare_term_is m name n, e, f, g) refl
 
   -- the same name or none, and the same node or none
   abbrev SameBody : Option Name × Option NodeTree → Option Name × Option NodeTree → Type 0
@@ -143,11 +138,7 @@ module _ (wide : Bool) where
   text_body v = body_text v.0 (option_map node_text v.1)
 
   same_arg : (waits other : Bool) (t u : TermTree) → other ≡ waits → bare_term u ≡ bare_term t → bare_arg (roll-ArgTree (record { waits = other; term = u })) ≡ bare_arg (roll-ArgTree (record { waits = waits; term = t }))
-  same_arg waits other t u e f =
-      bare_arg_is other u
-      ∙ ap (λ (z : Bool). roll-ArgTree (record { waits = z; term = bare_term u })) e
-      ∙ ap (λ (z : TermTree). roll-ArgTree (record { waits = waits; term = z })) f
-      ∙ sym (bare_arg_is waits t)
+  same_arg waits other t u e f = rw (bare_arg_is other u, bare_arg_is waits t, e, f) refl
 
   -- the marks before a term, if there are some
   marks_back : (m : Option Marks) → IfThere (λ k. Back wide mark (marks_text k) (SameBy bare_marks k)) m → Back wide (maybe mark) (marks_text (unwrap_or m marks.Plain)) (λ o. bare_marks (unwrap_or o marks.Plain) ≡ bare_marks (unwrap_or m marks.Plain))

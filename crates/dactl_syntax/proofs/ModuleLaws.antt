@@ -37,10 +37,7 @@ abbrev starts_text : Sort → Bool
 starts_text t = same_sort s.Header t || same_sort s.Module t
 
 abbrev goes_on_terms : Sort → Bool
-goes_on_terms s.Comma = true
-goes_on_terms s.Colon = true
-goes_on_terms s.Open = true
-goes_on_terms _ = false
+goes_on_terms t = same_sort s.Comma t || goes_on_term t
 
 firm_imports : Firm imports imports_at (same_sort s.Imports) none
 unfolding same_sort imports_at

@@ -21,11 +21,7 @@ goes_on_piece s.Open = true
 goes_on_piece _ = false
 
 abbrev pub goes_on_pattern : Sort → Bool
-goes_on_pattern s.Colon = true
-goes_on_pattern s.Open = true
-goes_on_pattern s.Plus = true
-goes_on_pattern s.Minus = true
-goes_on_pattern _ = false
+goes_on_pattern t = is_sign t || goes_on_piece t
 
 abbrev pub goes_on_pieces : Sort → Bool
 goes_on_pieces t = starts_piece t || goes_on_piece t

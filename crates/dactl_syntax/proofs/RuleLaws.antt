@@ -34,19 +34,10 @@ goes_on_part s.Becomes = true
 goes_on_part _ = false
 
 abbrev pub goes_on_parts : Sort → Bool
-goes_on_parts s.Comma = true
-goes_on_parts s.Colon = true
-goes_on_parts s.Open = true
-goes_on_parts s.Becomes = true
-goes_on_parts _ = false
+goes_on_parts t = same_sort s.Comma t || goes_on_part t
 
 abbrev pub goes_on_rules : Sort → Bool
-goes_on_rules s.Bar = true
-goes_on_rules s.Comma = true
-goes_on_rules s.Colon = true
-goes_on_rules s.Open = true
-goes_on_rules s.Becomes = true
-goes_on_rules _ = false
+goes_on_rules t = same_sort s.Bar t || goes_on_parts t
 
 lower_no_mark : every (bars (same_sort s.Lower) starts_mark) ≡ true
 unfolding same_sort
@@ -55,17 +46,6 @@ lower_no_mark = refl
 becomes_no_colon : every (bars (same_sort s.Becomes) (same_sort s.Colon)) ≡ true
 unfolding same_sort
 becomes_no_colon = refl
-
-becomes_ends : every (clears (same_sort s.Becomes) goes_on_part) ≡ true
-unfolding same_sort
-becomes_ends = refl
-
-term_ends : every (clears goes_on_term goes_on_part) ≡ true
-term_ends = refl
-
-lower_starts : every (implies (same_sort s.Lower) starts_term) ≡ true
-unfolding same_sort
-lower_starts = refl
 
 module _ (n : ℕ) where
   abbrev pub redirect : Part_of Part
@@ -116,11 +96,12 @@ module _ (n : ℕ) where
 
   stops_part : (rest : List Tok) → Stops (by goes_on_part) rest → Stops (by goes_on_term) rest
   stops_part [] h = tt
-  stops_part (t ∷ rest) h = cleared goes_on_term goes_on_part term_ends t.sort h
+  stops_part (t ∷ rest) h = cleared goes_on_term goes_on_part refl t.sort h
 
   after_lower : (t : Tok) (rest : List Tok) → Stops (by goes_on_part) rest → redirects (t ∷ rest) ≡ false
+  unfolding same_sort
   after_lower t [] h = refl
-  after_lower t (u ∷ rest) h = rw (cleared (same_sort s.Becomes) goes_on_part becomes_ends u.sort h) (and-false (is s.Lower t))
+  after_lower t (u ∷ rest) h = rw (cleared (same_sort s.Becomes) goes_on_part refl u.sort h) (and-false (is s.Lower t))
 
   no_redirect : (t u : Tok) (l : List Tok) (a b : Bool) → is s.Lower t ≡ a → is s.Becomes u ≡ b → (term (args n)).begins (t ∷ u ∷ l) → (a && b) ≡ false
   no_redirect t u l true true p q k = absurd (no_term t u l k p q)
@@ -152,7 +133,8 @@ module _ (n : ℕ) where
   begins_plain (t ∷ u ∷ l) rest b h = let k = and_parts (is s.Lower t) (is s.Becomes u) h in absurd (no_term t u l b k.0 k.1)
 
   starts_part : (t : Tok) (l : List Tok) → redirect.begins (t ∷ l) ⊎ plain.begins (t ∷ l) → starts_term t.sort ≡ true
-  starts_part t l (inl b) = along (same_sort s.Lower) starts_term lower_starts t.sort (firm_redirect.fit.starts t l b)
+  unfolding same_sort
+  starts_part t l (inl b) = along (same_sort s.Lower) starts_term refl t.sort (firm_redirect.fit.starts t l b)
   starts_part t l (inr b) = firm_plain.fit.starts t l b
 
   pub firm_part : Firm (part n) (part_at n) starts_term goes_on_part

@@ -79,10 +79,9 @@ pub data Stopped (wide : Bool) (rest : List ℕ) : Type 0 where
 
 token_is : (t u : Token) → t.kind ≡ u.kind → t.from ≡ u.from → t.to ≡ u.to → t ≡ u
 token_is t u a b c =
-    let one : t ≡ record { kind = u.kind; from = t.from; to = t.to } = ap (λ (k : TokenKind). record { kind = k; from = t.from; to = t.to }) a in
-    let two : record { kind = u.kind; from = t.from; to = t.to } ≡ record { kind = u.kind; from = u.from; to = t.to } = ap (λ (k : ℕ). record { kind = u.kind; from = k; to = t.to }) b in
-    let three : record { kind = u.kind; from = u.from; to = t.to } ≡ u = ap (λ (k : ℕ). record { kind = u.kind; from = u.from; to = k }) c in
-    one ∙ two ∙ three
+    ap (λ (k : TokenKind). record { kind = k; from = t.from; to = t.to }) a
+    ∙ ap (λ (k : ℕ). record { kind = u.kind; from = k; to = t.to }) b
+    ∙ ap (λ (k : ℕ). record { kind = u.kind; from = u.from; to = k }) c
 
 pub record SameReading (ts us : List Token) (e f : ℕ) (r s : List ℕ) : Type 0 where
   pub tokens : ts ≡ us
