@@ -55,14 +55,10 @@ fn class<'a>(text: &[u8], tokens: &'a [Terminal]) -> Read<'a, (Class, Place)>
         (spec.class_reads (toks text.now tokens.now)) }
 {
     match tokens {
-        [] => Err(ReadError::Fault(Fault::Unexpected { left: 0 })),
-        [token, rest @ ..] => {
-            if is_class(token.sort) {
-                Ok(((class_of(token.sort), place_of(*token)), rest))
-            } else {
-                Err(ReadError::Fault(Fault::Unexpected { left: tokens.len() }))
-            }
+        [token, rest @ ..] if is_class(token.sort) => {
+            Ok(((class_of(token.sort), place_of(*token)), rest))
         }
+        _ => Err(ReadError::Fault(Fault::Unexpected { left: tokens.len() })),
     }
 }
 

@@ -56,14 +56,8 @@ fn same_name<'a>(text: &[u8], name: &Name, tokens: &'a [Terminal]) -> Read<'a, T
         (read_one (is_name name.now) (toks text.now tokens.now)) }
 {
     match tokens {
-        [] => Err(ReadError::Fault(Fault::Unexpected { left: 0 })),
-        [token, rest @ ..] => {
-            if is_name(text, name, *token) {
-                Ok((*token, rest))
-            } else {
-                Err(ReadError::Fault(Fault::Unexpected { left: tokens.len() }))
-            }
-        }
+        [token, rest @ ..] if is_name(text, name, *token) => Ok((*token, rest)),
+        _ => Err(ReadError::Fault(Fault::Unexpected { left: tokens.len() })),
     }
 }
 

@@ -21,11 +21,10 @@ fn redirects(tokens: &[Terminal]) -> bool
     ensures { (text : List ℕ) → result ≡ spec.redirects (toks text tokens.now) }
 {
     match tokens {
-        [] => false,
-        [_] => false,
         [first, second, ..] => {
             same_sort(Sort::Lower, first.sort) && same_sort(Sort::Becomes, second.sort)
         }
+        _ => false,
     }
 }
 

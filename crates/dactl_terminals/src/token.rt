@@ -147,13 +147,7 @@ pub fn one<'a>(text: &[u8], tokens: &'a [Terminal], sort: Sort) -> Read<'a, Term
         (read_sign sort (toks text.now tokens.now)) }
 {
     match tokens {
-        [] => Err(ReadError::Fault(Fault::Unexpected { left: 0 })),
-        [token, rest @ ..] => {
-            if same_sort(sort, token.sort) {
-                Ok((*token, rest))
-            } else {
-                Err(ReadError::Fault(Fault::Unexpected { left: tokens.len() }))
-            }
-        }
+        [token, rest @ ..] if same_sort(sort, token.sort) => Ok((*token, rest)),
+        _ => Err(ReadError::Fault(Fault::Unexpected { left: tokens.len() })),
     }
 }
