@@ -1,6 +1,7 @@
 pub mod ValidTests
 pub mod ValidLists
 pub mod ValidTrees
+pub mod ValidViews
 pub mod ValidPatterns
 pub mod ValidVariables
 pub mod ValidNames

@@ -1,5 +1,5 @@
 -- What a text without characters and with integers of 64 bits means has none and such ones.
-use Rattle.std.proofs.Common.{◌≡◌, ℕ, zero, suc, ◌+◌, Bool, true, false, List, [], ◌∷◌, map, length, slice_get, IsTrue, ℤ, Option, Some, None, option_and_then, refl, sym, ap, subst, ◌∙◌, inl, inr}
+use Rattle.std.proofs.Common.{◌≡◌, ℕ, ◌+◌, Bool, true, false, List, [], ◌∷◌, map, length, slice_get, IsTrue, ℤ, Option, Some, None, option_and_then, refl, sym, ap, subst, ◌∙◌, inl, inr}
 use Rattle.std.specs.List.{enumerate_from, filter_map, list_all}
 use Rattle.dactl_base.specs.declared.refusal.Place.{Place}
 use Rattle.dactl_model.specs.declared.program.FreshNode.{FreshNode}
@@ -13,12 +13,7 @@ use Rattle.dactl_model.specs.Programs.{narrow_level, is_narrow, is_narrow_label,
 use Rattle.dactl_model.proofs.Unique.{left_true, right_true}
 use Rattle.dactl_meaning.specs.declared.tree.Name.{Name}
 use Rattle.dactl_meaning.specs.declared.tree.Marks.{Marks}
-use Rattle.dactl_meaning.specs.declared.tree.Sign.{Sign}
-use Rattle.dactl_meaning.specs.declared.tree.Sign.TheVariants as signs
 use Rattle.dactl_meaning.specs.declared.tree.PatternTree.{PatternTree}
-use Rattle.dactl_meaning.specs.declared.tree.PatternTree.TheOpen.{PatternTree-F}
-use Rattle.dactl_meaning.specs.declared.tree.PatternTree.TheViews.{roll-PatternTree}
-use Rattle.dactl_meaning.specs.declared.tree.PatternTree.TheFolds.{fold-roll-PatternTree, map-PatternTree}
 use Rattle.dactl_meaning.specs.declared.tree.NodeTree.{NodeTree}
 use Rattle.dactl_meaning.specs.declared.tree.ArgTree.{ArgTree}
 use Rattle.dactl_meaning.specs.declared.tree.TermTree.{TermTree}
@@ -28,79 +23,34 @@ use Rattle.dactl_meaning.specs.declared.tree.NodeTree.TheFolds.{fold-NodeTree, f
 use Rattle.dactl_meaning.specs.declared.tree.RuleTree.{RuleTree}
 use Rattle.dactl_meaning.specs.declared.tree.Module.{Module}
 use Rattle.dactl_meaning.specs.declared.tree.Text.{Text}
-use Rattle.dactl_meaning.specs.Declarations.{Placed, items_of, items, item_pattern, named_pattern}
+use Rattle.dactl_meaning.specs.Declarations.{Placed, items_of, items, item_pattern, named_pattern, symbols}
 use Rattle.dactl_meaning.specs.Sight.{Seen, SeenSymbol, SeenPattern, sees}
-use Rattle.dactl_meaning.specs.Expansion.{at_name, at_variable, join, chain, expansion_level, expansion_by, expansion_of, named_count, named_expansion, variables_of, number_in}
+use Rattle.dactl_meaning.specs.Expansion.{named_count, named_expansion, variables_of}
 use Rattle.dactl_meaning.specs.Contractum.{Core, Number, Character, Of, Sketch, Drawn, DrawnArc, drawn_from, node_drawn, arg_drawn, term_drawn, term_draws, terms_draw, term_of_part, made_by, symbol_label, label_of, fresh_of, fresh_nodes}
 use Rattle.dactl_meaning.specs.Meaning.{rule_of}
-use Rattle.dactl_meaning.specs.Spelling.{pattern_narrow, is_narrow_pattern, node_narrow, arg_narrow, term_narrow, is_narrow_term, all_patterns, IsNarrowText}
+use Rattle.dactl_meaning.specs.Spelling.{is_narrow_pattern, node_narrow, arg_narrow, term_narrow, is_narrow_term, all_patterns, IsNarrowText}
 use Rattle.dactl_meaning.specs.Contractum.{node_draws, arg_draws}
 use Rattle.dactl_validity.proofs.ValidLists.{In, in_right, in_map, in_flat, in_filter_map, map_in, flat_in, in_get, all_of, all_in}
 use Rattle.dactl_validity.proofs.ValidTests.{both}
 use Rattle.dactl_validity.proofs.ValidTrees.{term_induction}
-use Rattle.dactl_validity.proofs.ValidPatterns.{expands}
-use Rattle.dactl_meaning.proofs.Induction.{Each, EachLink, pattern_induction}
+use Rattle.dactl_validity.proofs.ValidPatterns.{Keeps, expansion_kept, named_kept, all_true}
+use Rattle.dactl_validity.proofs.ValidNames.{sees_below}
+use Rattle.dactl_meaning.proofs.Induction.{Each}
 
 -- ---- patterns
 
 abbrev IsNarrow : Pat → Type 0
 IsNarrow p = is_narrow p ≡ true
 
-narrow_roll : (x : Pat-F Pat) → is_narrow (roll-Pat x) ≡ narrow_level (map-Pat Pat Bool is_narrow x)
-narrow_roll x = fold-roll-Pat Bool narrow_level x
-
-narrow_all : (args : List Pat) → Each IsNarrow args → list_all (λ b. b) (map is_narrow args) ≡ true
-narrow_all [] h = refl
-narrow_all (p ∷ ps) h = both _ _ h.0 (narrow_all ps h.1)
-
-narrow_variable : (variables : Option (List (List ℕ))) (w : List ℕ) (p : Pat) → IsNarrow p → IsNarrow (at_variable variables w p)
-narrow_variable None w p h = h
-narrow_variable (Some vs) w p h = narrow_roll (Pat-F.Bind (number_in vs w) p) ∙ h
-
-narrow_join : (s : Sign) (p q : Pat) → IsNarrow p → IsNarrow q → IsNarrow (join s p q)
-narrow_join signs.Plus p q h k = narrow_roll (Pat-F.Union p q) ∙ both _ _ h k
-narrow_join signs.Minus p q h k = narrow_roll (Pat-F.Less p q) ∙ both _ _ h k
-
-narrow_name : (named : ℕ → ℕ → Pat) → ((m i : ℕ) → IsNarrow (named m i)) → (seen : Option Seen) (args : List Pat) → Each IsNarrow args → IsNarrow (at_name named seen args)
-narrow_name named inner None args h = narrow_roll Pat-F.Any
-narrow_name named inner (Some (SeenSymbol f class)) args h = narrow_roll (Pat-F.Sym f args) ∙ narrow_all args h
-narrow_name named inner (Some (SeenPattern m i)) args h = inner m i
-
-module _ (look : List ℕ → Option Seen) (named : ℕ → ℕ → Pat) (variables : Option (List (List ℕ))) (inner : (m i : ℕ) → IsNarrow (named m i)) where
-  abbrev expand : PatternTree → Pat
-  expand = expansion_by look named variables
-
-  -- the expansion of a narrow pattern is narrow
-  abbrev Narrows : PatternTree → Type 0
-  Narrows t = is_narrow_pattern t ≡ true → IsNarrow (expand t)
-
-  narrows_opened : (x : PatternTree-F PatternTree)
-      → (pattern_narrow (map-PatternTree PatternTree Bool is_narrow_pattern x) ≡ true → IsNarrow (expansion_level look named variables (map-PatternTree PatternTree Pat expand x)))
-      → Narrows (roll-PatternTree x)
-  narrows_opened x claim h = subst IsNarrow (sym (expands look named variables x)) (claim (sym (fold-roll-PatternTree Bool pattern_narrow x) ∙ h))
-
-  narrows_all : (args : List PatternTree) → Each Narrows args → list_all (λ b. b) (map is_narrow_pattern args) ≡ true → Each IsNarrow (map expand args)
-  narrows_all [] each h = tt
-  narrows_all (a ∷ args) each h = (each.0 (left_true _ _ h), narrows_all args each.1 (right_true (is_narrow_pattern a) _ h))
-
-  narrows_chain : (p : Pat) (rest : List (Sign × PatternTree)) → IsNarrow p → EachLink Narrows rest → list_all (λ (l : Sign × Bool). l.1) (map (λ (l : Sign × PatternTree). (l.0, is_narrow_pattern l.1)) rest) ≡ true
-      → IsNarrow (chain p (map (λ l. (l.0, expand l.1)) rest))
-  narrows_chain p [] h each k = h
-  narrows_chain p (l ∷ rest) h each k =
-      narrows_chain (join l.0 p (expand l.1)) rest (narrow_join l.0 p (expand l.1) h (each.0 (left_true (is_narrow_pattern l.1) _ k))) each.1 (right_true (is_narrow_pattern l.1) _ k)
-
-  pub expansion_narrow : (t : PatternTree) → Narrows t
-  expansion_narrow = pattern_induction Narrows (record {
-    any = narrows_opened PatternTree-F.Any (λ h. narrow_roll Pat-F.Any);
-    int = narrows_opened PatternTree-F.Int (λ h. narrow_roll Pat-F.Int);
-    char = narrows_opened PatternTree-F.Char (λ h. absurd cc);
-    integer = λ i. narrows_opened (PatternTree-F.Integer i) (λ h. narrow_roll (Pat-F.Literal i) ∙ h);
-    letter = λ c. narrows_opened (PatternTree-F.Letter c) (λ h. absurd cc);
-    symbol = λ name args each. narrows_opened (PatternTree-F.Sym name args) (λ h. narrow_name named inner (look name.text) (map expand args) (narrows_all args each h));
-    variable = λ name. narrows_opened (PatternTree-F.Variable name) (λ h. narrow_variable variables name.text (roll-Pat Pat-F.Any) (narrow_roll Pat-F.Any));
-    binder = λ name t ih. narrows_opened (PatternTree-F.Binder name t) (λ h. narrow_variable variables name.text (expand t) (ih h));
-    chain = λ first rest ih each. narrows_opened (PatternTree-F.Chain first rest) (λ h. narrows_chain (expand first) rest (ih (left_true (is_narrow_pattern first) _ h)) each (right_true (is_narrow_pattern first) _ h));
-  })
+narrow_kept : (count : ℕ) (variables : Option (List (List ℕ))) → Keeps narrow_level (λ b. b ≡ true) count (Unit {0}) variables
+narrow_kept count variables Pat-F.Char k = absurd (k tt)
+narrow_kept count variables (Pat-F.Literal i) k = k tt
+narrow_kept count variables (Pat-F.Letter c) k = absurd (k tt)
+narrow_kept count variables (Pat-F.Sym f args) k = all_true args k.1
+narrow_kept count variables (Pat-F.Bind v q) k = k.1
+narrow_kept count variables (Pat-F.Union q s) k = both _ _ k.0 k.1
+narrow_kept count variables (Pat-F.Less q s) k = both _ _ k.0 k.1
+narrow_kept count variables x k = refl
 
 -- ---- named patterns
 
@@ -125,15 +75,9 @@ pattern_in text m i t e =
     (in_flat items_of (enumerate_from 0 text.modules) (at.0, of.0) p at.1 (in_map (λ (j : ℕ × _). let p : Placed = record { owner = at.0; number = j.0; item = j.1 } in p) (enumerate_from 0 of.0.items) (there.0, is.0) there.1))
     is.2
 
-named_tree : (named : ℕ → ℕ → Pat) (look : List ℕ → Option Seen) → ((m i : ℕ) → IsNarrow (named m i)) → (tree : Option PatternTree) → ((t : PatternTree) → tree ≡ Some t → is_narrow_pattern t ≡ true) → IsNarrow (expansion_of named look tree)
-named_tree named look inner None h = narrow_roll Pat-F.Any
-named_tree named look inner (Some t) h = expansion_narrow look named None inner t (h t refl)
-
-module _ (text : Text) (narrow : IsNarrowText text) where
-  named_narrow : (depth m i : ℕ) → IsNarrow (named_expansion text depth m i)
-  named_narrow zero m i = narrow_roll Pat-F.Any
-  named_narrow (suc depth) m i = named_tree (named_expansion text depth) (sees text m) (named_narrow depth) (named_pattern text m i)
-      (λ t e. all_in (λ p. IsTrue (is_narrow_pattern p)) (all_patterns text) narrow.patterns t (in_right _ _ t (pattern_in text m i t e)))
+named_narrow : (text : Text) → IsNarrowText text → (depth m i : ℕ) → IsNarrow (named_expansion text depth m i)
+named_narrow text narrow = named_kept narrow_level (λ b. b ≡ true) (length (symbols text)) (Unit {0}) text (narrow_kept (length (symbols text)) None) (sees_below text)
+    (λ m i s t e. all_in (λ p. IsTrue (is_narrow_pattern p)) (all_patterns text) narrow.patterns t (in_right _ _ t (pattern_in text m i t e)))
 
 -- ---- terms
 
@@ -243,17 +187,21 @@ news_narrow look variables terms h = all_of (λ (node : FreshNode). IsTrue (is_n
 
 -- ---- rules
 
+narrow_roll : (x : Pat-F Pat) → is_narrow (roll-Pat x) ≡ narrow_level (map-Pat Pat Bool is_narrow x)
+narrow_roll x = fold-roll-Pat Bool narrow_level x
+
 binder_narrow : (v : ℕ) → IsNarrow (integer_binder v)
 binder_narrow v = narrow_roll (Pat-F.Bind v (roll-Pat Pat-F.Int)) ∙ narrow_roll Pat-F.Int
 
 pub arithmetic_narrow : (f : ℕ) (o : Op) → IsNarrowRule (arithmetic_rule f o)
 arithmetic_narrow f o = record {
-  pattern = narrow_roll (Pat-F.Sym f (integer_binder 0 ∷ integer_binder 1 ∷ [])) ∙ narrow_all (integer_binder 0 ∷ integer_binder 1 ∷ []) (binder_narrow 0, (binder_narrow 1, tt));
+  pattern = narrow_roll (Pat-F.Sym f (integer_binder 0 ∷ integer_binder 1 ∷ [])) ∙ both _ _ (binder_narrow 0) (both _ _ (binder_narrow 1) refl);
   body = tt;
 }
 
 pub rule_narrow : (text : Text) → IsNarrowText text → (m group : ℕ) (r : RuleTree) → is_narrow_pattern r.pattern ≡ true → ((t : TermTree) → In (map term_of_part r.parts) t → is_narrow_term t ≡ true) → IsNarrowRule (rule_of text m group r)
 rule_narrow text narrow m group r h k = record {
-  pattern = expansion_narrow (sees text m) (named_expansion text (named_count text)) (Some (variables_of r.pattern)) (named_narrow text narrow (named_count text)) r.pattern h;
+  pattern = expansion_kept narrow_level (λ b. b ≡ true) (length (symbols text)) (Unit {0}) (sees text m) (named_expansion text (named_count text)) (Some (variables_of r.pattern))
+      (narrow_kept (length (symbols text)) (Some (variables_of r.pattern))) (sees_below text m) (named_narrow text narrow (named_count text)) r.pattern (λ s. h);
   body = news_narrow (sees text m) (variables_of r.pattern) (map term_of_part r.parts) k;
 }

@@ -14,17 +14,15 @@ use Rattle.dactl_meaning.specs.declared.tree.Sign.{Sign}
 use Rattle.dactl_meaning.specs.declared.tree.Sign.TheVariants as signs
 use Rattle.dactl_meaning.specs.declared.tree.PatternTree.{PatternTree}
 use Rattle.dactl_meaning.specs.declared.tree.PatternTree.TheOpen.{PatternTree-F}
-use Rattle.dactl_meaning.specs.declared.tree.PatternTree.TheViews.{roll-PatternTree}
-use Rattle.dactl_meaning.specs.declared.tree.PatternTree.TheFolds.{fold-roll-PatternTree, map-PatternTree}
 use Rattle.dactl_meaning.specs.declared.tree.TermTree.{TermTree}
 use Rattle.dactl_meaning.specs.Sight.{Seen, SeenSymbol, SeenPattern}
-use Rattle.dactl_meaning.specs.Expansion.{Occurrence, is_among, is_plus, has_plus, occurrences, occurrences_in, occurrences_level, at_name, join, chain, expansion_level, expansion_by, number_in, root_names, root_names_level}
+use Rattle.dactl_meaning.specs.Expansion.{Occurrence, is_among, is_plus, has_plus, occurrences, occurrences_in, at_name, join, chain, expansion_by, number_in, root_names}
 use Rattle.dactl_meaning.specs.Contractum.{MentionTree, mentions_of, has_hashes, asked_by, suspend_of}
 use Rattle.dactl_validity.proofs.ValidLists.{In, in_left}
 use Rattle.dactl_validity.proofs.ValidTests.{or_left, or_right, neither, neither_left, neither_right, is_false}
-use Rattle.dactl_validity.proofs.ValidPatterns.{expands, occurs}
+use Rattle.dactl_validity.proofs.ValidViews.{Views, Below, views, views_level, view_induction}
 use Rattle.dactl_validity.proofs.ValidVariables.{among_of, number_once}
-use Rattle.dactl_meaning.proofs.Induction.{pattern_induction, plus_kept}
+use Rattle.dactl_meaning.proofs.Induction.{plus_kept}
 
 -- ---- what stands for the root is bound
 
@@ -65,66 +63,47 @@ chain_root v p (l ∷ rest) e =
 
 -- ---- what stands for the root has a name of the root
 
-roots_of : (x : PatternTree-F PatternTree) → root_names (roll-PatternTree x) ≡ root_names_level (map-PatternTree PatternTree (List (List ℕ)) root_names x)
-roots_of x = fold-roll-PatternTree (List (List ℕ)) root_names_level x
-
 module _ (look : List ℕ → Option Seen) (named : ℕ → ℕ → Pat) (vs : List (List ℕ)) (inner : (m i v : ℕ) → binds v (named m i) ≡ false) where
   abbrev full : PatternTree → Pat
   full = expansion_by look named (Some vs)
 
   -- one of the places is of a name of the root, and of that number
-  abbrev IsRootAt : ℕ → List Occurrence → List (List ℕ) → Type 0
-  IsRootAt v os roots = (o : Occurrence) × In os o × In roots o.name.text × (number_in vs o.name.text ≡ v)
+  abbrev IsRooted : Views → Type 0
+  IsRooted of = (v : ℕ) (choice : Bool) → binds_root v of.expansion ≡ true → (o : Occurrence) × In (of.occurrences choice) o × In of.roots o.name.text × (number_in vs o.name.text ≡ v)
 
   abbrev Rooted : PatternTree → Type 0
-  Rooted t = (v : ℕ) (choice : Bool) → binds_root v (full t) ≡ true → IsRootAt v (occurrences_in t choice) (root_names t)
+  Rooted t = IsRooted (views look named (Some vs) t)
 
-  rooted_opened : (x : PatternTree-F PatternTree)
-      → ((v : ℕ) (choice : Bool) → binds_root v (expansion_level look named (Some vs) (map-PatternTree PatternTree Pat full x)) ≡ true
-      → IsRootAt v (occurrences_level (map-PatternTree PatternTree (Bool → List Occurrence) occurrences_in x) choice) (root_names_level (map-PatternTree PatternTree (List (List ℕ)) root_names x)))
-      → Rooted (roll-PatternTree x)
-  rooted_opened x claim v choice e =
-      let r = claim v choice (ap (binds_root v) (sym (expands look named (Some vs) x)) ∙ e) in
-      (r.0, subst (λ os. In os r.0) (sym (occurs x choice)) r.1, subst (λ ns. In ns r.0.name.text) (sym (roots_of x)) r.2, r.3)
-
-  no_root : (x : Pat-F Pat) (v : ℕ) → root_level v (map-Pat Pat Bool (binds_root v) x) ≡ false → binds_root v (roll-Pat x) ≡ true → ⊥
-  no_root x v none e = let f : false ≡ true = sym none ∙ sym (root_roll v x) ∙ e in cc
+  no_root : (x : Pat-F Pat) (v : ℕ) → binds_root v (roll-Pat x) ≡ true → root_level v (map-Pat Pat Bool (binds_root v) x) ≡ false → ⊥
+  no_root x v e none = let f : false ≡ true = sym none ∙ sym (root_roll v x) ∙ e in cc
 
   no_root_name : (seen : Option Seen) (args : List Pat) (v : ℕ) → binds_root v (at_name named seen args) ≡ true → ⊥
-  no_root_name None args v e = no_root Pat-F.Any v refl e
-  no_root_name (Some (SeenSymbol f class)) args v e = no_root (Pat-F.Sym f args) v refl e
+  no_root_name None args v e = no_root Pat-F.Any v e refl
+  no_root_name (Some (SeenSymbol f class)) args v e = no_root (Pat-F.Sym f args) v e refl
   no_root_name (Some (SeenPattern m i)) args v e = let f : false ≡ true = sym (inner m i v) ∙ root_bound v (named m i) e in cc
 
   root_binder : (v : ℕ) (w : List ℕ) (p : Pat) → binds_root v (roll-Pat (Pat-F.Bind (number_in vs w) p)) ≡ true → (number_in vs w ≡ v) ⊎ (binds_root v p ≡ true)
   root_binder v w p e = elim (or_cases _ _ (sym (root_roll v (Pat-F.Bind (number_in vs w) p)) ∙ e)) [ inl here ↦ inl (eqb-true _ _ here) | inr below ↦ inr below ]
 
-  rooted_chain : (first : PatternTree) (rest : List (Sign × PatternTree)) → Rooted first → (v : ℕ) (choice : Bool) → binds_root v (chain (full first) (map (λ l. (l.0, full l.1)) rest)) ≡ true
-      → IsRootAt v (occurrences_level (map-PatternTree PatternTree (Bool → List Occurrence) occurrences_in (PatternTree-F.Chain first rest)) choice)
-      (root_names_level (map-PatternTree PatternTree (List (List ℕ)) root_names (PatternTree-F.Chain first rest)))
-  rooted_chain first rest ih v choice e =
+  rooted_level : (x : PatternTree-F PatternTree) → Below Rooted x → IsRooted (views_level look named (Some vs) x)
+  rooted_level (PatternTree-F.Sym name args) each v choice e = absurd (no_root_name (look name.text) (map full args) v e)
+  rooted_level (PatternTree-F.Variable name) none v choice e = elim (root_binder v name.text _ e) [
+    | inl is ↦ (_, inl refl, inl refl, is)
+    | inr below ↦ absurd (no_root Pat-F.Any v below refl)
+  ]
+  rooted_level (PatternTree-F.Binder name t) ih v choice e = elim (root_binder v name.text _ e) [
+    | inl is ↦ (_, inl refl, inl refl, is)
+    | inr below ↦ (let h = ih v choice below in (h.0, inr h.1, inr h.2, h.3))
+  ]
+  rooted_level (PatternTree-F.Chain first rest) each v choice e =
       let r = chain_root v (full first) (map (λ l. (l.0, full l.1)) rest) e in
-      let h = ih v (choice || has_plus (map (λ (l : Sign × PatternTree). (l.0, occurrences_in l.1)) rest)) r.1 in
+      let h = each.0 v (choice || has_plus (map (λ (l : Sign × PatternTree). (l.0, occurrences_in l.1)) rest)) r.1 in
       let none : has_plus (map (λ (l : Sign × PatternTree). (l.0, root_names l.1)) rest) ≡ false = plus_kept root_names rest ∙ sym (plus_kept full rest) ∙ r.0 in
       (h.0, in_left _ _ h.0 h.1, subst (λ (b : Bool). In (if b then [] else root_names first) h.0.name.text) (sym none) h.2, h.3)
+  rooted_level x none v choice e = absurd (no_root _ v e refl)
 
   rooted : (t : PatternTree) → Rooted t
-  rooted = pattern_induction Rooted (record {
-    any = rooted_opened PatternTree-F.Any (λ v choice e. absurd (no_root Pat-F.Any v refl e));
-    int = rooted_opened PatternTree-F.Int (λ v choice e. absurd (no_root Pat-F.Int v refl e));
-    char = rooted_opened PatternTree-F.Char (λ v choice e. absurd (no_root Pat-F.Char v refl e));
-    integer = λ i. rooted_opened (PatternTree-F.Integer i) (λ v choice e. absurd (no_root (Pat-F.Literal i) v refl e));
-    letter = λ c. rooted_opened (PatternTree-F.Letter c) (λ v choice e. absurd (no_root (Pat-F.Letter c) v refl e));
-    symbol = λ name args each. rooted_opened (PatternTree-F.Sym name args) (λ v choice e. absurd (no_root_name (look name.text) (map full args) v e));
-    variable = λ name. rooted_opened (PatternTree-F.Variable name) (λ v choice e. elim (root_binder v name.text (roll-Pat Pat-F.Any) e) [
-      | inl is ↦ (_, inl refl, inl refl, is)
-      | inr below ↦ absurd (no_root Pat-F.Any v refl below)
-    ]);
-    binder = λ name t ih. rooted_opened (PatternTree-F.Binder name t) (λ v choice e. elim (root_binder v name.text (full t) e) [
-      | inl is ↦ (_, inl refl, inl refl, is)
-      | inr below ↦ (let h = ih v choice below in (h.0, inr h.1, inr h.2, h.3))
-    ]);
-    chain = λ first rest ih each. rooted_opened (PatternTree-F.Chain first rest) (rooted_chain first rest ih);
-  })
+  rooted = view_induction look named (Some vs) IsRooted rooted_level
 
   -- a variable that is no name of the root does not stand for it
   pub beside_root : (t : PatternTree) (w : List ℕ) → ((o : Occurrence) → In (occurrences t) o → In vs o.name.text) → In vs w → is_among (root_names t) w ≡ false → binds_root (number_in vs w) (full t) ≡ false
