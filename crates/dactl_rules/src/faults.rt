@@ -182,6 +182,33 @@ fn mark_fault(
     }
 }
 
+/// Adds a `MarkOnBound` for a mention of a bound name with a mark that it may not have. A name
+/// without marks, as most are, is not looked up.
+fn mention_fault(
+    faults: &mut Vec<Refusal>,
+    variables: &Variables,
+    roots: &Variables,
+    given: &NameMap<usize>,
+    mention: Mentioned,
+) -> Result<(), Memory>
+    ensures { OnOk result
+        (faults.new.items ≡ faults.old.items
+        ++ told.mark_at
+        (λ w. is_some (variable_number variables.now w) || is_some (found given.now w))
+        (is_among variables.now) (is_among roots.now) (mention_of mention.entry)) }
+{
+    match mention.marks {
+        Marks::Plain => Ok(()),
+        marks => {
+            let name = mention.name.text.as_slice();
+            let bound = is_bound(variables, given, name);
+            let variable = variables.contains(name);
+            let root = roots.contains(name);
+            mark_fault(faults, bound, variable, root, marks)
+        }
+    }
+}
+
 /// Adds a `MarkOnBound` for each mention of a bound name with a mark that it may not have.
 fn mark_on_bound(
     faults: &mut Vec<Refusal>,
@@ -198,11 +225,7 @@ fn mark_on_bound(
         (is_among variables.now) (is_among roots.now)) (map mention_of mentions.now)) }
 {
     for mention in mentions {
-        let name = mention.name.text.as_slice();
-        let bound = is_bound(variables, given, name);
-        let variable = variables.contains(name);
-        let root = roots.contains(name);
-        mark_fault(faults, bound, variable, root, mention.marks)?;
+        mention_fault(faults, variables, roots, given, *mention)?;
     }
     Ok(())
 }
