@@ -32,6 +32,9 @@ use std::alloc::Global;
 /// The language that has integers of 128 bits and characters.
 const WIDE_LANGUAGE: u8 = 2;
 
+/// A first graph has seldom more than a new node for so many bytes of its text.
+const BYTES_OF_A_NODE: usize = 3;
+
 /// The numbers of groups are below this one. More groups are want of memory.
 const GROUP_NUMBERS: u32 = 0x8000_0000;
 
@@ -118,7 +121,8 @@ fn draft(
         (flat_map initials_in (map placed items.now))) }
 {
     let named = first_named_fault(alloc, patterns, items)?;
-    let ReadInitials { fault, start } = read_initials(alloc, patterns.scopes, items)?;
+    let room = patterns.text.length as usize / BYTES_OF_A_NODE;
+    let ReadInitials { fault, start } = read_initials(alloc, patterns.scopes, items, room)?;
     let mut compiled = rules(alloc, patterns, items)?;
     compiled.fault = lesser(lesser(named, compiled.fault), fault);
     Ok((compiled, start))

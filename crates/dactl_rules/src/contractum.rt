@@ -12,6 +12,9 @@ use dactl_meaning::tree::TermTree;
 use dactl_names::NameMap;
 use std::alloc::{AllocError, Global};
 
+/// Most contracta of rules make and mention no more than so many nodes.
+pub const USUAL: usize = 16;
+
 /// A contractum: what its terms make and mention, what each of them stands for, and the numbers of
 /// the new nodes that have names.
 #[derive(Drop)]
@@ -56,12 +59,17 @@ fn has_few_arcs(made: &[Sketch]) -> bool
     }
 }
 
-/// Draws the terms of a contractum, in their order. What a name stands for is not looked for yet.
+/// Draws the terms of a contractum, in their order, with room for so many new nodes at once. What
+/// a name stands for is not looked for yet.
 ///
 /// # Errors
 ///
 /// Want of memory, which more new nodes or arcs than have numbers of 31 bits are too.
-pub fn draw<'a>(alloc: Global, terms: &[&'a TermTree]) -> Result<Contractum<'a>, Memory>
+pub fn draw<'a>(
+    alloc: Global,
+    terms: &[&'a TermTree],
+    room: usize,
+) -> Result<Contractum<'a>, Memory>
     ensures drawn { IfOk result (λ c. AreDrawn (seen terms.now) c.drawing c.targets.items) }
     ensures small { IfOk result (λ c. length c.drawing.made.items < 2 ^ 31) }
     ensures counts { IfOk result (λ c. AreCounted (made_in c.drawing)) }
@@ -69,8 +77,8 @@ pub fn draw<'a>(alloc: Global, terms: &[&'a TermTree]) -> Result<Contractum<'a>,
         (λ c. (w : List ℕ) → found c.given w ≡ node_number (made_in c.drawing) w) }
 {
     let mut drawing = Drawing {
-        made: Vec::with_capacity(alloc, terms.len())?,
-        mentions: Vec::new(alloc),
+        made: Vec::with_capacity(alloc, room)?,
+        mentions: Vec::with_capacity(alloc, USUAL)?,
     };
     let mut targets = Vec::with_capacity(alloc, terms.len())?;
     for tree in terms {

@@ -34,7 +34,7 @@ fn references<'a>(alloc: Global, terms: &'a [TermTree]) -> Result<Vec<&'a TermTr
     Ok(references)
 }
 
-fn drawn<'a>(alloc: Global, terms: &'a [TermTree]) -> Result<Contractum<'a>, Memory>
+fn drawn<'a>(alloc: Global, terms: &'a [TermTree], room: usize) -> Result<Contractum<'a>, Memory>
     ensures drawn { IfOk result (λ c. AreDrawn terms.now c.drawing c.targets.items) }
     ensures small { IfOk result (λ c. length c.drawing.made.items < 2 ^ 31) }
     ensures counts { IfOk result (λ c. AreCountable terms.now) }
@@ -42,7 +42,7 @@ fn drawn<'a>(alloc: Global, terms: &'a [TermTree]) -> Result<Contractum<'a>, Mem
         (λ c. (w : List ℕ) → found c.given w ≡ node_number (made_in c.drawing) w) }
 {
     let references = references(alloc, terms)?;
-    draw(alloc, references.as_slice())
+    draw(alloc, references.as_slice(), room)
 }
 
 fn no_variables(alloc: Global) -> Result<Variables, Memory>
@@ -87,11 +87,12 @@ fn read_terms(
     scopes: &Scopes,
     owner: usize,
     terms: &[TermTree],
+    room: usize,
 ) -> Result<ReadInitials, Memory>
     ensures { IfOk result
         (AreMeant (seen_in scopes.now) (record { owner = owner; terms = terms.now } ∷ [])) }
 {
-    let contractum = drawn(alloc, terms)?;
+    let contractum = drawn(alloc, terms, room)?;
     let none = no_variables(alloc)?;
     let mut faults = Vec::new(alloc);
     let viewer = Viewer { scopes, owner };
@@ -112,11 +113,22 @@ fn read_terms(
     }
 }
 
-fn read_item(alloc: Global, scopes: &Scopes, item: Placed) -> Result<ReadInitials, Memory>
+fn read_item(
+    alloc: Global,
+    scopes: &Scopes,
+    item: Placed,
+    room: usize,
+) -> Result<ReadInitials, Memory>
     ensures { IfOk result (AreMeant (seen_in scopes.now) (initials_in (placed item.entry))) }
 {
     match item.item {
-        Item::Initial { terms, .. } => read_terms(alloc, scopes, item.owner, terms.as_slice()),
+        Item::Initial { terms, .. } => read_terms(
+            alloc,
+            scopes,
+            item.owner,
+            terms.as_slice(),
+            room,
+        ),
         _ => Ok(ReadInitials {
             fault: None,
             start: None,
@@ -124,7 +136,8 @@ fn read_item(alloc: Global, scopes: &Scopes, item: Placed) -> Result<ReadInitial
     }
 }
 
-/// Reads what the items say of first graphs. The terms of each are drawn once.
+/// Reads what the items say of first graphs. The terms of each are drawn once, with room for so
+/// many new nodes.
 ///
 /// # Errors
 ///
@@ -133,6 +146,7 @@ pub fn read_initials(
     alloc: Global,
     scopes: &Scopes,
     items: &[Placed],
+    room: usize,
 ) -> Result<ReadInitials, Memory>
     ensures { IfOk result
         (AreMeant (seen_in scopes.now) (flat_map initials_in (map placed items.now))) }
@@ -140,7 +154,7 @@ pub fn read_initials(
     let mut least = None;
     let mut kept = None;
     for item in items {
-        let ReadInitials { fault, start } = read_item(alloc, scopes, *item)?;
+        let ReadInitials { fault, start } = read_item(alloc, scopes, *item, room)?;
         least = lesser(least, fault);
         kept = kept.or(start);
     }

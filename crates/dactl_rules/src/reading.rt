@@ -8,7 +8,7 @@ ghost use Rattle.dactl_patterns.specs.Table.{AreNamed};
 ghost use Rattle.dactl_rules.specs.Terms.{seen};
 ghost use Rattle.dactl_rules.specs.Reading.{IsRead};
 
-use crate::contractum::{Contractum, draw};
+use crate::contractum::{Contractum, USUAL, draw};
 use crate::lefts::{lefts, redirect_root};
 use crate::roots::root_names;
 use crate::variables::Variables;
@@ -97,7 +97,7 @@ pub fn read<'a>(
     let lefts = lefts(alloc, tree.parts.as_slice())?;
     let suspendable = suspendable(alloc, tree, &roots, lefts.as_slice())?;
     let terms = terms(alloc, tree.parts.as_slice())?;
-    let contractum = draw(alloc, terms.as_slice())?;
+    let contractum = draw(alloc, terms.as_slice(), USUAL)?;
     Ok(RuleParts {
         head,
         variables,
