@@ -25,6 +25,7 @@ pub fn compile(alloc: Global, text: &[u8]) -> Result<Program, TextFault>
 {
     let found = tokens(alloc, text)?;
     let tree = parse(alloc, text, found.as_slice())?;
+    drop(found);
     match scope(alloc, &tree) {
         Ok(scopes) => program(alloc, &tree, &scopes),
         Err(fault) => Err(fault),
