@@ -19,14 +19,14 @@ use Rattle.dactl_rules.specs.declared.drawing.Sketch.{Sketch}
 use Rattle.dactl_rules.specs.declared.drawing.SketchArc.{SketchArc}
 use Rattle.dactl_rules.specs.declared.drawing.Drawing.{Drawing}
 use Rattle.dactl_meaning.specs.Contractum.{node_draws, arg_draws}
-use Rattle.dactl_rules.specs.Drawing.{args_draw, node_mentioned, arg_mentioned, args_mentioned, arc_of, sketch_of, mention_of, with_arcs, made_in, mentioned_in, next_number, Grows, Draws, DrawsArc, DrawsArcs}
+use Rattle.dactl_rules.specs.Drawing.{arcs_in, args_draw, node_mentioned, arg_mentioned, args_mentioned, arc_of, sketch_of, mention_of, with_arcs, made_in, mentioned_in, next_number, Grows, Draws, DrawsArc, DrawsArcs}
 
 -- ---- a new node's arcs
 
-pub arcs_set : (xs : List Sketch) (number : ℕ) (s t : Sketch) → number < length xs → s ≡ get_or xs number s → sketch_of t ≡ record (sketch_of s) { arcs = map arc_of t.arcs.items }
-    → map sketch_of (set xs number t) ≡ with_arcs (map sketch_of xs) number (map arc_of t.arcs.items)
+pub arcs_set : (xs : List Sketch) (number : ℕ) (s t : Sketch) → number < length xs → s ≡ get_or xs number s → sketch_of t ≡ record (sketch_of s) { arcs = map arc_of (arcs_in t.arcs) }
+    → map sketch_of (set xs number t) ≡ with_arcs (map sketch_of xs) number (map arc_of (arcs_in t.arcs))
 arcs_set [] number s t lt is same = absurd (omega arith)
-arcs_set (x ∷ xs) zero s t lt is same = ap (λ (z : contractum.Sketch). z ∷ map sketch_of xs) (same ∙ ap (λ (z : Sketch). record (sketch_of z) { arcs = map arc_of t.arcs.items }) is)
+arcs_set (x ∷ xs) zero s t lt is same = ap (λ (z : contractum.Sketch). z ∷ map sketch_of xs) (same ∙ ap (λ (z : Sketch). record (sketch_of z) { arcs = map arc_of (arcs_in t.arcs) }) is)
 arcs_set (x ∷ xs) (suc number) s t lt is same = ap (λ (z : List contractum.Sketch). sketch_of x ∷ z) (arcs_set xs number s t (omega arith) is same)
 
 pub with_arcs-append : (xs : List contractum.Sketch) (s : contractum.Sketch) (ys : List contractum.Sketch) (number : ℕ) (arcs : List (Bool × contractum.Target)) → number ≡ length xs

@@ -1,10 +1,8 @@
 -- What a drawing holds, in the words of the definitions of a contractum.
-use Rattle.std.specs.Prelude.{◌≡◌, ℕ, zero, suc, Bool, List, [], ◌∷◌, ◌++◌, map, length, Option}
+use Rattle.std.specs.Prelude.{◌≡◌, ℕ, zero, suc, Bool, List, [], ◌∷◌, ◌++◌, map, length}
 use Rattle.std.specs.List.{flat_map}
-use Rattle.dactl_meaning.specs.declared.tree.Marks.{Marks}
 use Rattle.dactl_meaning.specs.declared.tree.NodeTree.{NodeTree}
 use Rattle.dactl_meaning.specs.declared.tree.ArgTree.{ArgTree}
-use Rattle.dactl_meaning.specs.declared.tree.Name.{Name}
 use Rattle.dactl_meaning.specs.declared.tree.TermTree.{TermTree}
 use Rattle.dactl_meaning.specs.declared.tree.NodeTree.TheFolds.{fold-NodeTree, fold-ArgTree}
 use Rattle.dactl_meaning.specs.Contractum as contractum
@@ -15,6 +13,8 @@ use Rattle.dactl_rules.specs.declared.drawing.Core.{Core}
 use Rattle.dactl_rules.specs.declared.drawing.Core.TheVariants as core
 use Rattle.dactl_rules.specs.declared.drawing.Sketch.{Sketch}
 use Rattle.dactl_rules.specs.declared.drawing.SketchArc.{SketchArc}
+use Rattle.dactl_rules.specs.declared.drawing.Arcs.{Arcs}
+use Rattle.dactl_rules.specs.declared.drawing.Arcs.TheVariants as arcs
 use Rattle.dactl_rules.specs.declared.drawing.Mentioned.{Mentioned}
 use Rattle.dactl_rules.specs.declared.drawing.Drawing.{Drawing}
 
@@ -37,7 +37,8 @@ args_mentioned args = flat_map arg_mentioned args
 
 abbrev pub target_of : Target → contractum.Target
 target_of (target.Made k) = contractum.Made k
-target_of (target.Named w) = contractum.Named w.now
+target_of (target.Named n) = contractum.Named n.now.text
+target_of target.Nameless = contractum.Named []
 
 abbrev pub core_of : Core → contractum.Core
 core_of (core.Number value) = contractum.Number value.now
@@ -47,8 +48,14 @@ core_of (core.Of name) = contractum.Of name.now
 abbrev pub arc_of : SketchArc → Bool × contractum.Target
 arc_of a = (a.waits, target_of a.target)
 
+abbrev pub arcs_in : Arcs → List SketchArc
+arcs_in arcs.None = []
+arcs_in (arcs.One a) = a ∷ []
+arcs_in (arcs.Two a b) = a ∷ b ∷ []
+arcs_in (arcs.More many) = many.items
+
 abbrev pub sketch_of : Sketch → contractum.Sketch
-sketch_of s = record { name = s.term.now.name; marks = s.term.now.marks; core = core_of s.core; arcs = map arc_of s.arcs.items }
+sketch_of s = record { name = s.term.now.name; marks = s.term.now.marks; core = core_of s.core; arcs = map arc_of (arcs_in s.arcs) }
 
 abbrev pub mention_of : Mentioned → MentionTree
 mention_of m = record { name = m.name.now; marks = m.marks }

@@ -1,9 +1,10 @@
 //! What the terms of a contractum make and mention.
-ghost use Rattle.std.specs.Prelude.{◌≡◌, ◌<◌, ◌^◌, [], ◌∷◌, IfOk, OnOk, count_by, map};
+ghost use Rattle.std.specs.Prelude.{◌≡◌, ◌<◌, ◌^◌, [], ◌∷◌, IfOk, OnOk, count_by, length, map};
 ghost use Rattle.dactl_meaning.specs.Contractum.{term_draws, mentions_in};
 ghost use Rattle.dactl_meaning.specs.Contractum.{node_draws, arg_draws};
 ghost use Rattle.dactl_rules.specs.Drawing.{next_number, node_mentioned};
 ghost use Rattle.dactl_rules.specs.Drawing.{arg_mentioned, args_draw, args_mentioned, sketch_of};
+ghost use Rattle.dactl_rules.specs.Drawing.{arcs_in};
 ghost use Rattle.dactl_rules.specs.Drawing.{begun};
 ghost use Rattle.dactl_rules.specs.Drawing.{with_arcs, made_in, mentioned_in, arc_of};
 ghost use Rattle.dactl_rules.specs.Drawing.{Grows, Draws, DrawsArc, DrawsArcs};
@@ -15,11 +16,13 @@ use std::alloc::{AllocError, Global};
 /// How many new nodes a contractum can have. More of them are want of memory.
 pub const MOST_NODES: usize = 0x7fff_ffff;
 
-/// What a term stands for: a new node, by its number, or the node of a name.
+/// What a term stands for: a new node, by its number, the node of a name, or that of the empty
+/// name.
 #[derive(Clone, Copy)]
 pub enum Target<'a> {
     Made(u32),
-    Named(&'a [u8]),
+    Named(&'a Name),
+    Nameless,
 }
 
 /// What a new node is made of: an integer, a character, or a symbol under its name.
@@ -37,13 +40,48 @@ pub struct SketchArc<'a> {
     pub target: Target<'a>,
 }
 
+/// The arcs of a new node. Up to two, and few nodes have more, take no memory of their own.
+#[derive(Drop)]
+pub enum Arcs<'a> {
+    None,
+    One(SketchArc<'a>),
+    Two(SketchArc<'a>, SketchArc<'a>),
+    More(Vec<SketchArc<'a>>),
+}
+
+impl Arcs<'_> {
+    /// How many arcs there are.
+    pub fn len(&self) -> usize
+        ensures { result ≡ length (arcs_in self.now) }
+    {
+        match self {
+            Arcs::None => 0,
+            Arcs::One(_) => 1,
+            Arcs::Two(_, _) => 2,
+            Arcs::More(arcs) => arcs.len(),
+        }
+    }
+
+    /// How many arcs wait.
+    fn flags(&self) -> usize
+        ensures { result ≡ count_by (λ a. a.0) (map arc_of (arcs_in self.now)) }
+    {
+        match self {
+            Arcs::None => 0,
+            Arcs::One(arc) => usize::from(arc.waits),
+            Arcs::Two(first, second) => usize::from(first.waits) + usize::from(second.waits),
+            Arcs::More(arcs) => arcs.iter().filter(|arc| arc.waits).count(),
+        }
+    }
+}
+
 /// A new node: the term that makes it, with its name and its marks; what it is made of; and its
 /// arcs. A text may have a new node for every third byte, so a sketch is small.
 #[derive(Drop)]
 pub struct Sketch<'a> {
     pub term: &'a TermTree,
     pub core: Core<'a>,
-    pub arcs: Vec<SketchArc<'a>>,
+    pub arcs: Arcs<'a>,
 }
 
 impl Sketch<'_> {
@@ -51,7 +89,7 @@ impl Sketch<'_> {
     pub fn flags(&self) -> usize
         ensures { result ≡ count_by (λ a. a.0) (sketch_of self.now).arcs }
     {
-        self.arcs.iter().filter(|arc| arc.waits).count()
+        self.arcs.flags()
     }
 }
 
@@ -71,7 +109,7 @@ pub struct Drawing<'a> {
 
 impl<'a> Drawing<'a> {
     /// Begins a new node whose arcs are not known yet, and tells its number.
-    fn begin(&mut self, alloc: Global, term: &'a TermTree, core: Core<'a>) -> Result<usize, Memory>
+    fn begin(&mut self, term: &'a TermTree, core: Core<'a>) -> Result<usize, Memory>
         ensures grows { OnOk result (Grows (begun term.now core.entry ∷ []) [] self.old self.new) }
         ensures number { IfOk result (λ n. n ≡ next_number self.old) }
         ensures small { IfOk result (λ n. n < 2 ^ 31) }
@@ -83,16 +121,16 @@ impl<'a> Drawing<'a> {
         self.made.push(Sketch {
             term,
             core,
-            arcs: Vec::new(alloc),
+            arcs: Arcs::None,
         })?;
         Ok(number)
     }
 
     /// Gives a new node its arcs.
-    fn finish(&mut self, number: usize, arcs: Vec<SketchArc<'a>>)
+    fn finish(&mut self, number: usize, arcs: Arcs<'a>)
         requires { number < next_number self.old }
         ensures made { made_in self.new
-            ≡ with_arcs (made_in self.old) number (map arc_of arcs.entry.items) }
+            ≡ with_arcs (made_in self.old) number (map arc_of (arcs_in arcs.entry)) }
         ensures mentions { self.new.mentions ≡ self.old.mentions }
     {
         self.made[number].arcs = arcs;
@@ -112,15 +150,15 @@ fn node<'a>(
 {
     match tree {
         NodeTree::Integer { value, .. } => {
-            let number = drawing.begin(alloc, whole, Core::Number(value))?;
+            let number = drawing.begin(whole, Core::Number(value))?;
             Ok(Target::Made(number as u32))
         }
         NodeTree::Letter { value, .. } => {
-            let number = drawing.begin(alloc, whole, Core::Character(*value))?;
+            let number = drawing.begin(whole, Core::Character(*value))?;
             Ok(Target::Made(number as u32))
         }
         NodeTree::Sym { name, args } => {
-            let number = drawing.begin(alloc, whole, Core::Of(name))?;
+            let number = drawing.begin(whole, Core::Of(name))?;
             let arcs = args_of(alloc, drawing, args.as_slice())?;
             drawing.finish(number, arcs);
             Ok(Target::Made(number as u32))
@@ -130,6 +168,28 @@ fn node<'a>(
 
 #[cycle(draw)]
 fn args_of<'a>(
+    alloc: Global,
+    drawing: &mut Drawing<'a>,
+    args: &'a [ArgTree],
+) -> Result<Arcs<'a>, Memory>
+    ensures { IfOk result
+        (λ arcs. DrawsArcs (args_draw args.now (next_number drawing.old)) (args_mentioned args.now)
+        drawing.old drawing.new (arcs_in arcs)) }
+{
+    match args {
+        [] => Ok(Arcs::None),
+        [one] => Ok(Arcs::One(arg(alloc, drawing, one)?)),
+        [one, two] => {
+            let first = arg(alloc, drawing, one)?;
+            let second = arg(alloc, drawing, two)?;
+            Ok(Arcs::Two(first, second))
+        }
+        many => Ok(Arcs::More(many_args(alloc, drawing, many)?)),
+    }
+}
+
+#[cycle(draw)]
+fn many_args<'a>(
     alloc: Global,
     drawing: &mut Drawing<'a>,
     args: &'a [ArgTree],
@@ -186,8 +246,8 @@ pub fn term<'a>(
                 name,
                 marks: tree.marks,
             })?;
-            Ok(Target::Named(name.text.as_slice()))
+            Ok(Target::Named(name))
         }
-        (None, None) => Ok(Target::Named(&[])),
+        (None, None) => Ok(Target::Nameless),
     }
 }

@@ -5,14 +5,14 @@ ghost use Rattle.std.specs.List.{filter_map};
 ghost use Rattle.dactl_meaning.specs.Contractum.{denotes, name_denotes, mark_of, left_of_part};
 ghost use Rattle.dactl_meaning.specs.Contractum.{term_of_part, moves_of};
 ghost use Rattle.dactl_rules.specs.Drawing.{target_of, core_of, arc_of, sketch_of, mention_of};
-ghost use Rattle.dactl_rules.specs.Drawing.{made_in, mentioned_in};
+ghost use Rattle.dactl_rules.specs.Drawing.{arcs_in, made_in, mentioned_in};
 ghost use Rattle.dactl_rules.specs.Terms.{IsReady, AreDrawn};
 ghost use Rattle.dactl_meaning.specs.Expansion.{number_in};
 ghost use Rattle.dactl_rules.specs.Meant.{arc_meant, label_with, node_with, nodes_with};
 ghost use Rattle.dactl_rules.specs.Meant.{wake_of, moves_by, root_by};
 
 use crate::contractum::Contractum;
-use crate::drawing::{Core, Mentioned, Sketch, SketchArc, Target};
+use crate::drawing::{Arcs, Core, Mentioned, Sketch, SketchArc, Target};
 use crate::variables::Variables;
 use dactl_base::refusal::Memory;
 use dactl_meaning::tree::{Marks, Part};
@@ -73,27 +73,61 @@ impl Contractum<'_> {
     {
         match target {
             Target::Made(number) => Mention::Fresh(number),
-            Target::Named(name) => self.named(variables, name),
+            Target::Named(name) => self.named(variables, name.text.as_slice()),
+            Target::Nameless => self.named(variables, &[]),
         }
+    }
+
+    fn arc(&self, variables: &Variables, arc: SketchArc) -> FreshArc
+        requires { IsReady variables.now self.now }
+        ensures { result
+            ≡ arc_meant variables.now (made_in self.now.drawing) (arc_of arc.entry) }
+    {
+        FreshArc {
+            to: self.meant(variables, arc.target),
+            waits: arc.waits,
+        }
+    }
+
+    fn many_arcs(
+        &self,
+        variables: &Variables,
+        arcs: &[SketchArc],
+        meant: &mut Vec<FreshArc>,
+    ) -> Result<(), Memory>
+        requires { IsReady variables.now self.now }
+        ensures { OnOk result
+            (meant.new.items
+            ≡ meant.old.items
+            ++ map (arc_meant variables.now (made_in self.now.drawing)) (map arc_of arcs.now)) }
+    {
+        for arc in arcs {
+            meant.push(self.arc(variables, *arc))?;
+        }
+        Ok(())
     }
 
     fn arcs(
         &self,
         alloc: Global,
         variables: &Variables,
-        arcs: &[SketchArc],
+        arcs: &Arcs,
     ) -> Result<Items<FreshArc>, Memory>
         requires { IsReady variables.now self.now }
         ensures { IfOk result
             (λ meant. meant
-            ≡ map (arc_meant variables.now (made_in self.now.drawing)) (map arc_of arcs.now)) }
+            ≡ map (arc_meant variables.now (made_in self.now.drawing))
+            (map arc_of (arcs_in arcs.now))) }
     {
         let mut meant = Vec::with_capacity(alloc, arcs.len())?;
-        for arc in arcs {
-            meant.push(FreshArc {
-                to: self.meant(variables, arc.target),
-                waits: arc.waits,
-            })?;
+        match arcs {
+            Arcs::None => {}
+            Arcs::One(one) => meant.push(self.arc(variables, *one))?,
+            Arcs::Two(first, second) => {
+                meant.push(self.arc(variables, *first))?;
+                meant.push(self.arc(variables, *second))?;
+            }
+            Arcs::More(arcs) => self.many_arcs(variables, arcs.as_slice(), &mut meant)?,
         }
         Ok(Items::from_vec(meant))
     }
@@ -111,7 +145,7 @@ impl Contractum<'_> {
             ≡ node_with variables.now (made_in self.now.drawing) (sketch_of sketch.now) symbol) }
     {
         let label = label(sketch.core, symbol);
-        let arcs = self.arcs(alloc, variables, sketch.arcs.as_slice())?;
+        let arcs = self.arcs(alloc, variables, &sketch.arcs)?;
         let mark = mark(sketch.term.marks)?;
         Ok(FreshNode { label, arcs, mark })
     }

@@ -5,9 +5,8 @@ use Rattle.dactl_symbols.specs.Least.{TellsLeast}
 use Rattle.dactl_symbols.specs.Scoping.{seen_in}
 use Rattle.dactl_rules.specs.Initials.{root_in}
 use Rattle.dactl_rules.specs.Told.{drawn_faults}
-use Rattle.dactl_rules.specs.Drawing.{made_in, sketch_of}
+use Rattle.dactl_rules.specs.Drawing.{made_in}
 use Rattle.dactl_rules.specs.Meant.{nodes_with}
-use Rattle.dactl_rules.specs.Told.{symbol_at}
 use Rattle.dactl_rules.proofs.Meanings.{nodes_told, symbols_many}
 use Rattle.dactl_rules.proofs.WholePrograms.{read_one, root_told}
 use Rattle.dactl_rules.proofs.initials.read_terms.Goals as goal
