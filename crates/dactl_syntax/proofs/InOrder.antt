@@ -2,8 +2,8 @@
 use Rattle.std.proofs.Common.{◌≡◌, ℕ, zero, suc, ◌<◌, ◌≤◌, Bool, true, false, inl, inr, List, [], ◌∷◌, ◌++◌, map, Option, Some, None, All, sym, ap, subst, ◌∙◌, arith}
 use Rattle.std.specs.List.{AllByRecursion as Each, flat_map}
 use Rattle.std.proofs.lemmas.List.Elements.{All-from_recursion}
-use Rattle.dactl_grammar.specs.Grammar.{one, WholeRow, choice, maybe, means, placed, place_of as first_place}
-use Rattle.dactl_grammar.proofs.Holds.{Splits, Holds, IfThere, holds_weaker, holds_one, holds_row, holds_choice, holds_maybe, holds_many, holds_means, holds_barred}
+use Rattle.dactl_grammar.specs.Grammar.{WholeRow, choice, means, placed, place_of as first_place}
+use Rattle.dactl_grammar.proofs.Holds.{Splits, Holds, IfThere, holds_one, holds_row, holds_choice, holds_maybe, holds_many, holds_means, holds_barred}
 use Rattle.dactl_terminals.specs.declared.token.Sort.TheVariants as s
 use Rattle.dactl_meaning.specs.declared.tree.Name.{Name}
 use Rattle.dactl_meaning.specs.declared.tree.Sign.{Sign}
@@ -16,17 +16,17 @@ use Rattle.dactl_meaning.specs.declared.tree.PatternTree.TheFolds.{fold-roll-Pat
 use Rattle.dactl_meaning.specs.declared.tree.Part.{Part}
 use Rattle.dactl_meaning.specs.declared.tree.RuleTree.{RuleTree}
 use Rattle.dactl_meaning.specs.declared.tree.Text.{Text}
-use Rattle.dactl_terminals.specs.Parts.{Tok, Part_of, is, sign, behind, before, pair, upper, lower, name_of, value_at}
-use Rattle.dactl_syntax.specs.Productions.{term, args, any_of, int_of, char_of, number_of, letter, character_of, pattern_sym_of, base, piece_at, piece_of, piece, operator, chain_at, chain_of, pattern_over, squares, rounds, pattern, part_term, part_redirect, part, rewrites_of, redirects_of, rewriting, redirecting, rule_of, rule, group_of, group, imports_of, symbols_of, pattern_named_of, rules_of, rules, initial_of, an_item, is_name, module_of, a_module, language_of, text}
+use Rattle.dactl_terminals.specs.Parts.{Tok, Part_of, is, behind, pair, upper, lower, name_of, value_at}
+use Rattle.dactl_syntax.specs.Productions.{term, args, any_of, int_of, char_of, number_of, letter, character_of, pattern_sym_of, base, piece_at, piece_of, piece, operator, chain_at, chain_of, pattern_over, squares, rounds, pattern, part_term, part_redirect, part, rewrites_of, redirects_of, rewriting, redirecting, rule_of, rule}
 use Rattle.dactl_meaning.specs.Expansion.{Occurrence, occurrences_level, occurrences_in, occurrences}
 use Rattle.dactl_meaning.specs.RuleFaults.{place_of, widths_level, widths, lefts_of}
 use Rattle.dactl_meaning.specs.Contractum.{name_list, left_of_part}
 use Rattle.dactl_meaning.specs.Order.{pattern_places, left_places, IsInOrder, PlacesInOrder}
-use Rattle.dactl_meaning.specs.Declarations.{groups, rules as all_rules}
-use Rattle.dactl_syntax.specs.Answer.{tokens_seen, most_open}
+use Rattle.dactl_meaning.specs.Declarations.{rules as all_rules}
+use Rattle.dactl_syntax.specs.Answer.{most_open}
 use Rattle.dactl_syntax.specs.Laws.{Reads}
 use Rattle.dactl_syntax.proofs.TokenFacts.{RisesFrom, rises_sooner, tokens_are_seen}
-use Rattle.dactl_syntax.proofs.Holding.{Anything, holds_anything, holds_behind, holds_before, Some_of, holds_listed, holds_several, holds_separated, each_append, each_split, each_weaker, each_map, each_flat}
+use Rattle.dactl_syntax.proofs.Holding.{Anything, holds_anything, holds_behind, holds_before, holds_listed, holds_separated, each_append, each_split, each_weaker, each_map, each_flat}
 use Rattle.dactl_syntax.proofs.PatternLaws.{firm_pattern_at}
 use Rattle.dactl_syntax.proofs.Walk.{modules_hold}
 use Rattle.dactl_syntax.proofs.Listed.{rules_each}

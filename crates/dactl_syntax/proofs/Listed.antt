@@ -6,7 +6,6 @@ use Rattle.dactl_meaning.specs.declared.tree.Name.{Name}
 use Rattle.dactl_meaning.specs.declared.tree.PatternTree.{PatternTree}
 use Rattle.dactl_meaning.specs.declared.tree.TermTree.{TermTree}
 use Rattle.dactl_meaning.specs.declared.tree.RuleTree.{RuleTree}
-use Rattle.dactl_meaning.specs.declared.tree.Group.{Group}
 use Rattle.dactl_meaning.specs.declared.tree.Item.{Item}
 use Rattle.dactl_meaning.specs.declared.tree.Item.TheVariants as item
 use Rattle.dactl_meaning.specs.declared.tree.Module.{Module}

@@ -1,5 +1,5 @@
 -- Reading items, modules and texts is exact for their grammar.
-use Rattle.std.proofs.Common.{◌≡◌, ℕ, Bool, true, false, inl, inr, List, [], ◌∷◌, refl}
+use Rattle.std.proofs.Common.{◌≡◌, ℕ, Bool, true, List, [], ◌∷◌, refl}
 use Rattle.std.proofs.lemmas.Bool.{and_parts}
 use Rattle.std.specs.Prelude.{◌||◌, is_some}
 use Rattle.std.specs.Str.{bytes_eq}
@@ -8,10 +8,10 @@ use Rattle.dactl_terminals.specs.declared.token.Sort.TheVariants as s
 use Rattle.dactl_meaning.specs.declared.tree.Name.{Name}
 use Rattle.dactl_terminals.specs.Sort.{same_sort}
 use Rattle.dactl_syntax.specs.Sort.{starts_term, starts_piece, is_class, starts_item}
-use Rattle.dactl_grammar.specs.Grammar.{StartsOne, one, row, choice, maybe, many, means}
+use Rattle.dactl_grammar.specs.Grammar.{StartsOne, one, maybe, many, means}
 use Rattle.dactl_grammar.specs.Reader.{read_one}
-use Rattle.dactl_terminals.specs.Parts.{Tok, is, sign, behind, before, pair, separated, upper, names}
-use Rattle.dactl_syntax.specs.Productions.{several, term, args, pattern, group, imports_of, imports, class_at, class, symbols_of, symbols, pattern_named_of, named, rules_of, rules, initial_of, initial, an_item, is_name, module_of, a_module, language_of, text}
+use Rattle.dactl_terminals.specs.Parts.{Tok, is, sign, behind, before, separated}
+use Rattle.dactl_syntax.specs.Productions.{several, term, args, imports_of, imports, class_at, class, symbols_of, symbols, pattern_named_of, named, rules_of, rules, initial_of, initial, an_item, is_name, module_of, a_module, language_of, text}
 use Rattle.dactl_terminals.specs.Reads.{by}
 use Rattle.dactl_syntax.specs.Reading.{comma_term_at, terms_at, items_at, imports_at, class_reads, public_class_at, public_at, symbols_at, named_at, rules_at, initial_at, item_at, module_end, module_at, modules_at, language_at, text_at}
 use Rattle.dactl_grammar.proofs.Exact.{exact_one}

@@ -1,12 +1,12 @@
 -- What is read of tokens of language 1 has integers of 64 bits and no characters.
-use Rattle.std.proofs.Common.{◌≡◌, ℕ, zero, suc, ◌-◌, ◌^◌, ◌<◌, Bool, true, false, List, [], ◌∷◌, ◌++◌, map, Option, Some, None, All, IsTrue, refl, sym, ap, subst, ◌∙◌, arith}
+use Rattle.std.proofs.Common.{◌≡◌, ℕ, zero, suc, ◌-◌, ◌^◌, ◌<◌, Bool, true, false, List, [], ◌∷◌, ◌++◌, Option, Some, None, IsTrue, refl, sym, ap, subst, ◌∙◌, arith}
 use Rattle.std.specs.Prelude.{unwrap_or, is_some, ℤ, pos, negsuc}
 use Rattle.std.specs.Int.Signed.{mag}
-use Rattle.std.specs.List.{AllByRecursion as Each, list_all}
+use Rattle.std.specs.List.{AllByRecursion as Each}
 use Rattle.std.proofs.lemmas.Bool.{le-leb, lt-ltb}
 use Rattle.dactl_model.specs.Integers.{is_word}
-use Rattle.dactl_grammar.specs.Grammar.{one, maybe, means}
-use Rattle.dactl_grammar.proofs.Holds.{Holds, IfThere, holds_one, holds_row, holds_choice, holds_maybe, holds_many, holds_means, holds_barred, holds_placed}
+use Rattle.dactl_grammar.specs.Grammar.{maybe}
+use Rattle.dactl_grammar.proofs.Holds.{Holds, IfThere, holds_one, holds_row, holds_choice, holds_maybe, holds_many, holds_means, holds_barred}
 use Rattle.dactl_terminals.specs.declared.token.Sort.TheVariants as s
 use Rattle.dactl_meaning.specs.declared.tree.Name.{Name}
 use Rattle.dactl_meaning.specs.declared.tree.Marks.{Marks}
@@ -25,11 +25,11 @@ use Rattle.dactl_meaning.specs.declared.tree.PatternTree.TheVariants.{rolls-Any,
 use Rattle.dactl_meaning.specs.declared.tree.PatternTree.TheOpen.{PatternTree-F}
 use Rattle.dactl_meaning.specs.declared.tree.PatternTree.TheViews.{roll-PatternTree}
 use Rattle.dactl_meaning.specs.declared.tree.PatternTree.TheFolds.{fold-roll-PatternTree, map-PatternTree}
-use Rattle.dactl_terminals.specs.Parts.{Tok, Part_of, is, here, sign, behind, before, upper, lower, value_at}
-use Rattle.dactl_syntax.specs.Productions.{several, mark, integer_of, letter_of, sym_of, node, named_of, bare_of, body, term_of, term, arg_of, arg, args, any_of, int_of, char_of, number_of, character_of, pattern_sym_of, base, piece_at, piece_of, piece, operator, chain_at, chain_of, pattern_over, squares, rounds, pattern, part_term, part_redirect, part, rewrites_of, redirects_of, rewriting, redirecting, rule_of, rule, group_of, group, imports_of, symbols_of, pattern_named_of, named, rules_of, rules, initial_of, initial, an_item, is_name, module_of, a_module}
-use Rattle.dactl_meaning.specs.Spelling.{pattern_narrow, is_narrow_pattern, node_narrow, arg_narrow, term_narrow, is_narrow_term, contracta, all_patterns, IsNarrowText}
+use Rattle.dactl_terminals.specs.Parts.{Tok, Part_of, is, here, sign, upper, lower, value_at}
+use Rattle.dactl_syntax.specs.Productions.{mark, integer_of, letter_of, sym_of, node, named_of, bare_of, body, term_of, term, arg_of, arg, args, any_of, int_of, char_of, number_of, character_of, pattern_sym_of, base, piece_at, piece_of, piece, operator, chain_at, chain_of, pattern_over, squares, rounds, pattern}
+use Rattle.dactl_meaning.specs.Spelling.{pattern_narrow, is_narrow_pattern, node_narrow, arg_narrow, term_narrow, is_narrow_term}
 use Rattle.dactl_syntax.proofs.TokenFacts.{IsTold, character_is}
-use Rattle.dactl_syntax.proofs.Holding.{AreTold, split_told, holds_anything, holds_behind, holds_before, Some_of, holds_listed, holds_several, holds_separated, each_weaker, each_passes}
+use Rattle.dactl_syntax.proofs.Holding.{AreTold, split_told, holds_anything, holds_behind, holds_before, each_weaker, each_passes}
 
 -- the fact holds of what tokens of language 1 mean
 abbrev Keeps : {A : Type 0} → Part_of A → (A → Type 0) → Type 0

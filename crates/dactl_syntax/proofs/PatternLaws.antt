@@ -1,14 +1,14 @@
 -- Reading patterns, rules, items and modules is exact for their grammar.
-use Rattle.std.proofs.Common.{ℕ, zero, suc, Bool, true, false, inl, inr, List, refl}
+use Rattle.std.proofs.Common.{ℕ, zero, suc, Bool, true, false, List, refl}
 use Rattle.std.specs.Prelude.{◌||◌}
 use Rattle.dactl_terminals.specs.declared.token.Sort.{Sort}
 use Rattle.dactl_terminals.specs.declared.token.Sort.TheVariants as s
 use Rattle.dactl_meaning.specs.declared.tree.PatternTree.{PatternTree}
 use Rattle.dactl_terminals.specs.Sort.{same_sort}
 use Rattle.dactl_syntax.specs.Sort.{starts_base, starts_piece, is_sign}
-use Rattle.dactl_grammar.specs.Grammar.{choice, maybe, many, means}
+use Rattle.dactl_grammar.specs.Grammar.{many}
 use Rattle.dactl_grammar.specs.Reader.{read_many}
-use Rattle.dactl_terminals.specs.Parts.{Tok, Part_of, sign, behind, before, pair, upper, lower}
+use Rattle.dactl_terminals.specs.Parts.{Part_of, behind, before, pair}
 use Rattle.dactl_syntax.specs.Productions.{any_of, int_of, char_of, number_of, character_of, pattern_sym_of, base, piece_of, piece, plus_of, minus_of, operator, chain_of, pattern_over, squares, rounds, pattern}
 use Rattle.dactl_terminals.specs.Reads.{Reads, by, read_pair, read_behind, read_before}
 use Rattle.dactl_syntax.specs.Reading.{read_base, read_piece, operator_at, read_pattern, squares_at, rounds_at, pattern_at}

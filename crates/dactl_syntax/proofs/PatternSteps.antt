@@ -1,9 +1,8 @@
 -- What the loops and the steps over brackets of patterns cite.
-use Rattle.std.proofs.Common.{◌≡◌, ℕ, zero, suc, ◌-◌, ◌<◌, List, refl, arith, inl}
+use Rattle.std.proofs.Common.{◌≡◌, ℕ, zero, suc, ◌-◌, ◌<◌, List, refl, arith}
 use Rattle.dactl_terminals.specs.declared.token.Sort.TheVariants as s
-use Rattle.dactl_syntax.specs.Sort.{is_sign, starts_piece}
 use Rattle.dactl_terminals.specs.Parts.{Tok}
-use Rattle.dactl_syntax.specs.Productions.{operator, piece, squares, rounds}
+use Rattle.dactl_syntax.specs.Productions.{squares, rounds}
 use Rattle.dactl_terminals.specs.Reads.{read_behind, read_before}
 use Rattle.dactl_syntax.specs.Reading.{piece_reads, link_at, pieces_at, pattern_at, squares_at, rounds_at}
 use Rattle.dactl_terminals.proofs.Firm.{firm_shrinks}

@@ -9,17 +9,17 @@ use Rattle.dactl_terminals.specs.declared.token.Sort.TheVariants as s
 use Rattle.dactl_meaning.specs.declared.tree.Part.{Part}
 use Rattle.dactl_terminals.specs.Sort.{same_sort}
 use Rattle.dactl_syntax.specs.Sort.{starts_mark, starts_term, starts_piece}
-use Rattle.dactl_grammar.specs.Grammar.{choice, means, placed}
+use Rattle.dactl_grammar.specs.Grammar.{means}
 use Rattle.dactl_grammar.specs.Reader.{left, read_as}
-use Rattle.dactl_terminals.specs.Parts.{Tok, Part_of, is, behind, before, pair, listed, separated, lower}
+use Rattle.dactl_terminals.specs.Parts.{Tok, Part_of, is, behind, pair, separated, lower}
 use Rattle.dactl_syntax.specs.Productions.{several, term, args, part_term, part_redirect, part, rewrites_of, redirects_of, rewriting, redirecting, rule_of, rule, group_of, group, pattern}
 use Rattle.dactl_terminals.specs.Reads.{Reads, by, read_pair, read_behind, lower_at}
 use Rattle.dactl_syntax.specs.Reading.{args_at, term_at, redirects, part_at, plain_at, comma_part_at, plain_parts_at, parts_at, rewriting_at, redirecting_at, right_side_at, rule_at, bar_rule_at, rule_list_at, group_at, groups_at}
-use Rattle.dactl_terminals.proofs.Sorts.{every, bars, apart, implies, along, clears, cleared}
+use Rattle.dactl_terminals.proofs.Sorts.{every, bars, apart, along, cleared}
 use Rattle.dactl_grammar.proofs.Exact.{Stops, exact_choice}
 use Rattle.dactl_grammar.proofs.Same.{same_parted}
 use Rattle.dactl_terminals.proofs.Fits.{none, solid_choice_of}
-use Rattle.dactl_terminals.proofs.Firm.{Firm, firm_as, firm_place, firm_same, firm_row, firm_pair, firm_behind, firm_before, firm_or, firm_list, firm_lower}
+use Rattle.dactl_terminals.proofs.Firm.{Firm, firm_as, firm_place, firm_same, firm_pair, firm_behind, firm_before, firm_or, firm_list, firm_lower}
 use Rattle.dactl_syntax.proofs.TermLaws.{goes_on_term, firm_term, firm_args}
 use Rattle.dactl_syntax.proofs.PatternLaws.{firm_pattern_at}
 

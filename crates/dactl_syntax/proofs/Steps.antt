@@ -6,7 +6,7 @@ use Rattle.dactl_terminals.specs.declared.token.Terminal.{Terminal}
 use Rattle.dactl_syntax.specs.Sort.{starts_arg}
 use Rattle.dactl_grammar.specs.Reader.{read_many}
 use Rattle.dactl_terminals.specs.Parts.{Tok}
-use Rattle.dactl_syntax.specs.Productions.{arg, args}
+use Rattle.dactl_syntax.specs.Productions.{args}
 use Rattle.dactl_terminals.specs.Reads.{by, read_behind, read_before, read_sign}
 use Rattle.dactl_syntax.specs.Reading.{arg_at, args_at}
 use Rattle.dactl_terminals.specs.Seen.{seen, toks}

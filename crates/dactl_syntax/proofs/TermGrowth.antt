@@ -1,5 +1,5 @@
 -- With one more bracket each part of the grammar reads the same, or more.
-use Rattle.std.proofs.Common.{◌≡◌, ℕ, zero, suc, Bool, true, false, inl, List, [], length, refl}
+use Rattle.std.proofs.Common.{◌≡◌, ℕ, zero, suc, Bool, true, inl, List, [], length, refl}
 use Rattle.std.specs.Prelude.{◌||◌}
 use Rattle.dactl_terminals.specs.declared.token.Sort.TheVariants as s
 use Rattle.dactl_meaning.specs.declared.tree.ArgTree.{ArgTree}

@@ -1,16 +1,14 @@
 -- Reading terms is exact for the grammar of terms.
-use Rattle.std.proofs.Common.{ℕ, zero, suc, Bool, true, false, inl, inr, List, length, Option, refl}
+use Rattle.std.proofs.Common.{ℕ, zero, suc, Bool, true, false, List, length, refl}
 use Rattle.std.specs.Prelude.{◌||◌}
 use Rattle.dactl_terminals.specs.declared.token.Sort.{Sort}
 use Rattle.dactl_terminals.specs.declared.token.Sort.TheVariants as s
-use Rattle.dactl_meaning.specs.declared.tree.Name.{Name}
-use Rattle.dactl_meaning.specs.declared.tree.NodeTree.{NodeTree}
 use Rattle.dactl_meaning.specs.declared.tree.ArgTree.{ArgTree}
 use Rattle.dactl_terminals.specs.Sort.{same_sort}
 use Rattle.dactl_syntax.specs.Sort.{starts_mark, starts_node, starts_body, starts_term, starts_arg}
-use Rattle.dactl_grammar.specs.Grammar.{choice, maybe, many, means}
+use Rattle.dactl_grammar.specs.Grammar.{many}
 use Rattle.dactl_grammar.specs.Reader.{read_many}
-use Rattle.dactl_terminals.specs.Parts.{Tok, Part_of, sign, behind, before, pair, upper, lower}
+use Rattle.dactl_terminals.specs.Parts.{Part_of, behind, before}
 use Rattle.dactl_syntax.specs.Productions.{star_of, hashes_of, counted, mark, integer_of, letter_of, sym_of, node, named_of, bare_of, body, term_of, term, arg_of, arg, args}
 use Rattle.dactl_terminals.specs.Reads.{Reads, by, read_behind, read_before}
 use Rattle.dactl_syntax.specs.Reading.{hashes_at, mark_at, read_node, read_body, read_term, read_arg, args_at}

@@ -1,5 +1,5 @@
 -- What reading all of the tokens gives is what is answered for them.
-use Rattle.std.proofs.Common.{◌≡◌, ℕ, zero, suc, ◌+◌, ◌-◌, ◌<◌, Bool, inl, inr, List, [], ◌∷◌, ◌++◌, length, drop, get_or, Result, Ok, Err, refl, sym, ap, subst, ◌∙◌, arith, length-append}
+use Rattle.std.proofs.Common.{◌≡◌, ℕ, zero, suc, ◌+◌, ◌-◌, ◌<◌, Bool, inl, inr, List, [], ◌∷◌, ◌++◌, length, drop, get_or, Ok, Err, refl, sym, ap, ◌∙◌, arith, length-append}
 use Rattle.dactl_base.specs.declared.refusal.Kind.{Kind}
 use Rattle.dactl_base.specs.declared.refusal.Kind.TheVariants as kinds
 use Rattle.dactl_base.specs.declared.refusal.Refusal.{Refusal}
@@ -10,10 +10,9 @@ use Rattle.dactl_grammar.specs.Reader.{Reader, read_all}
 use Rattle.dactl_grammar.proofs.Bounded.{Bounded}
 use Rattle.dactl_grammar.proofs.Answered.{read_unexpected, read_too_deep}
 use Rattle.dactl_grammar.proofs.Exclusive.{unexpected_read, too_deep_read}
-use Rattle.dactl_tokens.specs.declared.token.Token.{Token}
 use Rattle.dactl_terminals.specs.declared.token.Terminal.{Terminal}
 use Rattle.dactl_terminals.specs.Parts.{Tok}
-use Rattle.dactl_terminals.specs.Seen.{tokens_seen, toks}
+use Rattle.dactl_terminals.specs.Seen.{toks}
 use Rattle.dactl_terminals.specs.Answer.{next_place, refusal_of, IsFault}
 
 drop_front : (k : ℕ) (front rest : List Tok) → k ≡ length front → drop k (front ++ rest) ≡ rest

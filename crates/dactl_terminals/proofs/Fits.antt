@@ -1,12 +1,11 @@
 -- Readers of tokens: where each may start and go on is told by the sort of the next token.
 use Rattle.std.proofs.Common.{◌≡◌, Bool, true, false, ◌⊎◌, inl, inr, List, [], ◌∷◌, ◌++◌, refl, sym, ap, subst, ◌∙◌, append_assoc}
-use Rattle.dactl_meaning.specs.declared.tree.Name.{Name}
 use Rattle.dactl_terminals.specs.declared.token.Sort.{Sort}
 use Rattle.dactl_terminals.specs.declared.token.Sort.TheVariants as s
 use Rattle.dactl_terminals.specs.Sort.{same_sort}
 use Rattle.dactl_grammar.specs.Grammar.{StartsOne, BeginsSecond, row, choice, maybe, WholeMany, many, means, barred, placed}
 use Rattle.dactl_grammar.specs.Reader.{Reader, head_is, read_one, read_row, read_as, read_choice, read_maybe, read_many, read_barred, read_placed}
-use Rattle.dactl_terminals.specs.Parts.{Tok, Part_of, is, sign, behind, before, pair, listed, separated, name_of, upper, lower, names}
+use Rattle.dactl_terminals.specs.Parts.{Tok, Part_of, is, sign, behind, before, pair, listed, name_of, upper, lower, names}
 use Rattle.dactl_terminals.specs.Reads.{Reads, by, read_behind, read_before, read_listed, upper_at, lower_at, comma_upper_at, names_at}
 use Rattle.dactl_grammar.proofs.Exact.{Stops, Exact, exact_one, exact_row, exact_means, exact_choice, exact_maybe, exact_many, exact_barred, exact_placed, exact_same}
 use Rattle.dactl_grammar.proofs.Same.{Same}

@@ -1,5 +1,5 @@
 -- What reading the parts that are in more than one grammar gives.
-use Rattle.std.specs.Prelude.{ℕ, Bool, List, ◌∷◌}
+use Rattle.std.specs.Prelude.{Bool, List, ◌∷◌}
 use Rattle.dactl_meaning.specs.declared.tree.Name.{Name}
 use Rattle.dactl_grammar.specs.Reader.{Reader, read_one, read_row, read_as, read_many}
 use Rattle.dactl_terminals.specs.declared.token.Sort.{Sort}
