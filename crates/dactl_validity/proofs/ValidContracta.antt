@@ -20,14 +20,14 @@ use Rattle.dactl_meaning.specs.Sight.{Seen, SeenSymbol, SeenPattern}
 use Rattle.dactl_meaning.specs.Uses.{Use, term_uses}
 use Rattle.dactl_meaning.specs.Expansion.{is_among, number_in}
 use Rattle.dactl_meaning.specs.Contractum.{Target, Made, Named, Core, Number, Character, Of, Sketch, Drawn, terms_draw, made_by, MentionTree, mentions_of, name_list, given_names, has_name, number_given, name_denotes, denotes, mark_of, symbol_label, label_of, fresh_of, fresh_nodes, has_star, wakes_of}
-use Rattle.dactl_meaning.specs.RuleFaults.{place_of, at_if, core_names, wide_in_contractum, is_pattern, not_creatable, bound_names, unbound_mentions, too_many_waits_at, too_many_waits, named_twice_in_contractum, marks_on_bound, suspended_again, each_at, contractum_faults}
+use Rattle.dactl_meaning.specs.RuleFaults.{place_of, at_if, core_names, wide_in_contractum, is_pattern, not_creatable, bound_names, unbound_mentions, too_many_waits_at, too_many_waits, each_at, contractum_faults}
 use Rattle.dactl_meaning.specs.Spelling.{is_counted, is_whole}
 use Rattle.dactl_validity.specs.Counting.{AreCountable}
 use Rattle.dactl_validity.proofs.ValidLists.{In, in_left, in_right, in_map, map_in, in_flat, flat_in, in_filter, filter_in, all_of}
 use Rattle.dactl_validity.proofs.ValidTests.{right_only, is_true, not_above, at_least}
 use Rattle.dactl_validity.proofs.ValidPatterns.{SeesBelow}
 use Rattle.dactl_validity.proofs.ValidVariables.{among_in, number_below}
-use Rattle.dactl_validity.proofs.ValidTerms.{Within, IsCore, IsSketch, IsDrawn, terms_drawn}
+use Rattle.dactl_validity.proofs.ValidTerms.{Within, Limits, IsCore, IsSketch, IsDrawn, terms_drawn}
 
 -- ---- faults
 
@@ -61,25 +61,12 @@ pub record HasNoFault (look : List ℕ → Option Seen) (variables : List (List 
   pub waits : NoPlace (too_many_waits terms)
 
 pub has_no_fault : (look : List ℕ → Option Seen) (variables roots : List (List ℕ)) (terms : List TermTree) → Faultless (contractum_faults look variables roots terms) → HasNoFault look variables terms
-has_no_fault look variables roots terms h =
-    let wide = each_at kinds.TooWide (wide_in_contractum terms) in
-    let unbound = each_at kinds.Unbound (unbound_mentions variables terms) in
-    let twice = each_at kinds.NamedTwice (named_twice_in_contractum variables terms) in
-    let creatable = each_at kinds.NotCreatable (not_creatable look terms) in
-    let marked = each_at kinds.MarkOnBound (marks_on_bound variables roots terms) in
-    let suspended = each_at kinds.MarkOnBound (suspended_again roots terms) in
-    let waits = each_at kinds.TooManyWaits (too_many_waits terms) in
-    let to_suspended = faultless_left (wide ++ unbound ++ twice ++ creatable ++ marked ++ suspended) waits h in
-    let to_marked = faultless_left (wide ++ unbound ++ twice ++ creatable ++ marked) suspended to_suspended in
-    let to_creatable = faultless_left (wide ++ unbound ++ twice ++ creatable) marked to_marked in
-    let to_twice = faultless_left (wide ++ unbound ++ twice) creatable to_creatable in
-    let to_unbound = faultless_left (wide ++ unbound) twice to_twice in
-    record {
-      wide = no_place kinds.TooWide (wide_in_contractum terms) (faultless_left wide unbound to_unbound);
-      unbound = no_place kinds.Unbound (unbound_mentions variables terms) (faultless_right wide unbound to_unbound);
-      creatable = no_place kinds.NotCreatable (not_creatable look terms) (faultless_right (wide ++ unbound ++ twice) creatable to_creatable);
-      waits = no_place kinds.TooManyWaits (too_many_waits terms) (faultless_right (wide ++ unbound ++ twice ++ creatable ++ marked ++ suspended) waits h);
-    }
+has_no_fault look variables roots terms h = record {
+  wide = no_place kinds.TooWide (wide_in_contractum terms) (λ r k. h r (search (in_left, in_right, k) depth 8));
+  unbound = no_place kinds.Unbound (unbound_mentions variables terms) (λ r k. h r (search (in_left, in_right, k) depth 8));
+  creatable = no_place kinds.NotCreatable (not_creatable look terms) (λ r k. h r (search (in_left, in_right, k) depth 8));
+  waits = no_place kinds.TooManyWaits (too_many_waits terms) (λ r k. h r (search (in_left, in_right, k) depth 8));
+}
 
 -- ---- what names denote
 
@@ -133,10 +120,13 @@ module _ (look : List ℕ → Option Seen) (variables : List (List ℕ)) (terms 
   mentions_bound m h = is_true (is_among (bound_names variables terms) m.name.text)
       (none_passes (λ (m : MentionTree). not (is_among (bound_names variables terms) m.name.text)) (mentions_of terms) (λ (m : MentionTree). place_of m.name) fine.unbound m h)
 
-  pub all_drawn : (d : Drawn) → In (terms_draw 0 terms) d → IsDrawn (length made) (IsBound variables made) (IsSeen look) d
-  all_drawn = terms_drawn (length made) (IsBound variables made) (IsSeen look) terms 0 (omega arith) whole mentions_bound seen
+  abbrev limits : Limits
+  limits = record { bound = length made; Known = IsBound variables made; Used = IsSeen look; Strict = ⊥ }
 
-  sketch_drawn : (s : Sketch) → In made s → IsSketch (length made) (IsBound variables made) (IsSeen look) s
+  all_drawn : (d : Drawn) → In (terms_draw 0 terms) d → IsDrawn limits d
+  all_drawn = terms_drawn limits terms 0 (omega arith) whole (λ s. absurd s) mentions_bound seen
+
+  sketch_drawn : (s : Sketch) → In made s → IsSketch limits s
   sketch_drawn s h = let r = flat_in (λ (d : Drawn). d.made) (terms_draw 0 terms) s h in (all_drawn r.0 r.1).made s r.2
 
   few_arcs : (s : Sketch) → In made s → length s.arcs ≤ 16

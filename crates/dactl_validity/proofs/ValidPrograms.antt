@@ -204,11 +204,12 @@ module _ (text : Text) (spelled : IsSpelled text) (counted : IsCountable text) (
         let here = in_rules text r.0 r.1 r.3 r.4 in
         subst IsNarrowRule (sym r.7) (rule_narrow text narrow r.0.owner r.2 r.1
         (all_in (λ p. IsTrue (is_narrow_pattern p)) (all_patterns text) narrow.patterns r.1.pattern (in_left _ _ r.1.pattern (in_map (λ (p : PlacedRule). p.rule.pattern) (rules text) (placed_rule r.0.owner r.1) here)))
+        (told r.0 r.1 r.3 r.4).whole
         (narrow_terms (map term_of_part r.1.parts) (in_left _ _ (map term_of_part r.1.parts) (in_map (λ (p : PlacedRule). map term_of_part p.rule.parts) (rules text) (placed_rule r.0.owner r.1) here))))
 
     start_narrow : (is : List PlacedInitial) → ((i : PlacedInitial) → In is i → In (all_initials text) i) → AreNarrowNodes (start_by text is).fresh
     start_narrow [] h = All-nil _
-    start_narrow (i ∷ is) h = news_narrow (sees text i.owner) [] i.terms (narrow_terms i.terms (terms_in i (h i (inl refl))))
+    start_narrow (i ∷ is) h = news_narrow (sees text i.owner) [] i.terms (whole i (h i (inl refl))) (narrow_terms i.terms (terms_in i (h i (inl refl))))
 
     program_narrow : IsNarrowProgram (program_of text)
     program_narrow = record {

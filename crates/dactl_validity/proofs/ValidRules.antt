@@ -1,5 +1,5 @@
 -- A rule without faults is valid.
-use Rattle.std.proofs.Common.{◌≡◌, ◌≢◌, ℕ, ◌+◌, ◌^◌, ◌<◌, ◌≤◌, ◌↔◌, Bool, true, false, not, if◌then◌else◌, List, [], ◌++◌, map, length, IsTrue, Option, Some, None, unwrap_or, refl, ap, subst, ◌∙◌, inl}
+use Rattle.std.proofs.Common.{◌≡◌, ◌≢◌, ℕ, ◌+◌, ◌^◌, ◌<◌, ◌≤◌, ◌↔◌, Bool, true, false, not, if◌then◌else◌, List, [], map, length, IsTrue, Option, Some, None, unwrap_or, refl, ap, subst, ◌∙◌, inl}
 use Rattle.std.specs.List.{flat_map}
 use Rattle.dactl_base.specs.declared.refusal.Kind.TheVariants as kinds
 use Rattle.dactl_model.specs.declared.program.Class.{Class}
@@ -16,15 +16,15 @@ use Rattle.dactl_meaning.specs.Sight.{sees, class_for}
 use Rattle.dactl_meaning.specs.Uses.{Use, pattern_uses, part_uses, term_uses, rule_uses}
 use Rattle.dactl_meaning.specs.Expansion.{Occurrence, is_among, number_in, occurrences, variables_of, root_names, named_count, named_expansion, rule_expansion, pattern_expansion}
 use Rattle.dactl_meaning.specs.Contractum.{term_of_part, made_by, fresh_nodes, moves_of, wakes_of}
-use Rattle.dactl_meaning.specs.RuleFaults.{again, place_of, binders_in_choice, named_twice_in_pattern, wide_in_pattern, at_if, is_too_wide, lefts_of, variable_lefts, unbound_lefts, redirects_root, suspendable, redirected_twice, not_overwritable, head_is, root_not_rewritable, is_class, each_at, contractum_faults, pattern_faults, left_faults, rule_faults}
+use Rattle.dactl_meaning.specs.RuleFaults.{again, place_of, binders_in_choice, at_if, is_too_wide, lefts_of, variable_lefts, unbound_lefts, redirects_root, suspendable, redirected_twice, head_is, root_not_rewritable, is_class, rule_faults}
 use Rattle.dactl_meaning.specs.Meaning.{head_symbol, rule_of}
 use Rattle.dactl_meaning.specs.Spelling.{is_whole}
 use Rattle.dactl_validity.specs.Counting.{AreCountable}
-use Rattle.dactl_validity.proofs.ValidLists.{In, Pairs, in_left, in_map, map_in, filter_every}
+use Rattle.dactl_validity.proofs.ValidLists.{In, Pairs, in_left, in_right, in_map, map_in, filter_every}
 use Rattle.dactl_validity.proofs.ValidTests.{neither_left, neither_right, is_true, not_above}
 use Rattle.dactl_validity.proofs.ValidPatterns.{SeesBelow, SeesSymbol, Plain, symbols_expanded, placed, told, bound}
 use Rattle.dactl_validity.proofs.ValidVariables.{among_in, in_once, once_in, once_distinct, number_below, number_of_some}
-use Rattle.dactl_validity.proofs.ValidContracta.{Faultless, NoPlace, faultless_left, faultless_right, no_place, none_passes, HasNoFault, has_no_fault, IsSeen, news_fine, wakes_fine, stands_fine}
+use Rattle.dactl_validity.proofs.ValidContracta.{Faultless, NoPlace, no_place, none_passes, HasNoFault, has_no_fault, IsSeen, news_fine, wakes_fine, stands_fine}
 use Rattle.dactl_validity.proofs.ValidMoves.{again_none, all_once, all_beside, all_end}
 use Rattle.dactl_validity.proofs.ValidSuspensions.{beside_root, suspend_low, root_kept, none_of}
 
@@ -45,32 +45,14 @@ record IsFine (text : Text) (m : ℕ) (r : RuleTree) : Type 0 where
   once : NoPlace (redirected_twice r)
 
 fine_rule : (text : Text) (m : ℕ) (r : RuleTree) → Faultless (rule_faults text m r) → IsFine text m r
-fine_rule text m r h =
-    let at_root = each_at kinds.RootNotRewritable (root_not_rewritable (rewritable text m) (rule_expansion text m r.pattern) r) in
-    let in_pattern = pattern_faults text m false r.place.byte r.pattern in
-    let in_terms = contractum_faults (sees text m) (variables_of r.pattern) (suspendable r) (map term_of_part r.parts) in
-    let in_lefts = left_faults text m r in
-    let binders = each_at kinds.BinderInChoice (binders_in_choice false r.pattern) in
-    let wide = each_at kinds.TooWide (wide_in_pattern r.pattern) in
-    let whole = each_at kinds.TooWide (at_if (is_too_wide false (pattern_expansion text m r.pattern) r.pattern) r.place.byte) in
-    let twice = each_at kinds.NamedTwice (named_twice_in_pattern r.pattern) in
-    let unbound = each_at kinds.Unbound (unbound_lefts r) in
-    let redirected = each_at kinds.RedirectedTwice (redirected_twice r) in
-    let over = each_at kinds.NotOverwritable (not_overwritable (writable text m) (rule_expansion text m r.pattern) r) in
-    let to_terms = faultless_left (at_root ++ in_pattern ++ in_terms) in_lefts h in
-    let to_pattern = faultless_left (at_root ++ in_pattern) in_terms to_terms in
-    let pattern = faultless_right at_root in_pattern to_pattern in
-    let to_whole = faultless_left (binders ++ wide ++ whole) twice pattern in
-    let lefts = faultless_right (at_root ++ in_pattern ++ in_terms) in_lefts h in
-    let to_redirected = faultless_left (unbound ++ redirected) over lefts in
-    record {
-      root = no_place kinds.RootNotRewritable (root_not_rewritable (rewritable text m) (rule_expansion text m r.pattern) r) (faultless_left at_root in_pattern to_pattern);
-      binders = no_place kinds.BinderInChoice (binders_in_choice false r.pattern) (faultless_left binders wide (faultless_left (binders ++ wide) whole to_whole));
-      narrow = no_place kinds.TooWide (at_if (is_too_wide false (pattern_expansion text m r.pattern) r.pattern) r.place.byte) (faultless_right (binders ++ wide) whole to_whole);
-      contractum = has_no_fault (sees text m) (variables_of r.pattern) (suspendable r) (map term_of_part r.parts) (faultless_right (at_root ++ in_pattern) in_terms to_terms);
-      lefts = no_place kinds.Unbound (unbound_lefts r) (faultless_left unbound redirected to_redirected);
-      once = no_place kinds.RedirectedTwice (redirected_twice r) (faultless_right unbound redirected to_redirected);
-    }
+fine_rule text m r h = record {
+  root = no_place kinds.RootNotRewritable (root_not_rewritable (rewritable text m) (rule_expansion text m r.pattern) r) (λ f k. h f (search (in_left, in_right, k) depth 8));
+  binders = no_place kinds.BinderInChoice (binders_in_choice false r.pattern) (λ f k. h f (search (in_left, in_right, k) depth 8));
+  narrow = no_place kinds.TooWide (at_if (is_too_wide false (pattern_expansion text m r.pattern) r.pattern) r.place.byte) (λ f k. h f (search (in_left, in_right, k) depth 8));
+  contractum = has_no_fault (sees text m) (variables_of r.pattern) (suspendable r) (map term_of_part r.parts) (λ f k. h f (search (in_left, in_right, k) depth 8));
+  lefts = no_place kinds.Unbound (unbound_lefts r) (λ f k. h f (search (in_left, in_right, k) depth 8));
+  once = no_place kinds.RedirectedTwice (redirected_twice r) (λ f k. h f (search (in_left, in_right, k) depth 8));
+}
 
 -- ---- the head
 
