@@ -1,17 +1,5 @@
-pub mod Drawings
-pub mod Tables
-pub mod DrawnTerms
-pub mod Twice
-pub mod ToldFaults
-pub mod Suspensions
-pub mod Least
-pub mod Meanings
 pub mod RootNames
-pub mod Writings
-pub mod LeftSides
 pub mod Late
 pub mod WholeRules
-pub mod Listings
 pub mod RuleLists
 pub mod WholePrograms
-mod Worked

@@ -1,5 +1,5 @@
 -- Rules and faults that are added one after another.
-use Rattle.std.proofs.Common.{◌≡◌, ℕ, ◌+◌, ◌<◌, Bool, true, false, if◌then◌else◌, List, [], ◌∷◌, ◌++◌, map, length, take, get_or, Contains, Option, Some, None, refl, sym, ap, ◌∙◌, subst, arith, append_assoc, length-append}
+use Rattle.std.proofs.Common.{◌≡◌, ℕ, ◌+◌, ◌<◌, List, [], ◌∷◌, ◌++◌, map, length, take, get_or, Contains, Option, None, refl, sym, ap, ◌∙◌, subst, arith, append_assoc, length-append}
 use Rattle.std.specs.List.{flat_map}
 use Rattle.std.proofs.lemmas.List.{append-nil, map-append}
 use Rattle.std.proofs.lemmas.List.Elements.{All-append, All-from_recursion}
@@ -13,33 +13,14 @@ use Rattle.dactl_meaning.specs.declared.tree.Text.{Text}
 use Rattle.dactl_meaning.specs.Declarations.{Placed, PlacedGroup}
 use Rattle.dactl_meaning.specs.Meaning.{rule_of, rules_from}
 use Rattle.dactl_meaning.specs.RuleFaults.{rule_faults}
-use Rattle.dactl_symbols.specs.Least.{sooner, precedes, TellsLeast}
+use Rattle.dactl_symbols.specs.Least.{sooner, TellsLeast}
 use Rattle.dactl_symbols.proofs.Sooner.{sooner-None, sooner-assoc}
 use Rattle.dactl_rules.specs.declared.compiled.CompiledRules.{CompiledRules}
 use Rattle.dactl_validity.specs.Counting.{AreCountable}
 use Rattle.dactl_rules.specs.RuleLists.{Adds, AddsGroups, HasRules, terms_of, placed_groups, groups_in, faults_in}
-use Rattle.dactl_rules.proofs.Least.{tells_append}
-use Rattle.dactl_rules.proofs.Listings.{one_more, flat_one}
-use Rattle.dactl_rules.proofs.Listings.{items_more as items_more_of}
-
--- ---- lists of faults
-
-pub none_told : TellsLeast (Contains []) None
-none_told = λ x h. let lt = h.1 in absurd (omega (arith, lt))
-
--- no fault is the first of two only where there is none
-pub both_none : (a b : Option Refusal) → sooner a b ≡ None → (a ≡ None) × (b ≡ None)
-both_none None None e = (refl, refl)
-both_none None (Some b) e = let no : Some b ≡ None = e in cc
-both_none (Some a) None e = let no : Some a ≡ None = e in cc
-both_none (Some a) (Some b) e = absurd (full a b e)
-  where
-    full : (a b : Refusal) → sooner (Some a) (Some b) ≡ None → ⊥
-    full a b e = by (precedes b a) e
-      where
-        by : (p : Bool) → (if p then Some b else Some a) ≡ None → ⊥
-        by true e = cc
-        by false e = cc
+use Rattle.dactl_contractum.proofs.Least.{none_told, both_none, tells_append}
+use Rattle.dactl_contractum.proofs.Listings.{one_more, flat_one}
+use Rattle.dactl_contractum.proofs.Listings.{items_more as items_more_of}
 
 -- ---- additions
 

@@ -30,15 +30,15 @@ use Rattle.dactl_symbols.specs.Sights.{Sights}
 use Rattle.dactl_symbols.proofs.Turns.{precedes-trans, Precedes-test, test-Precedes}
 use Rattle.dactl_patterns.proofs.Faultless.{wide_there}
 use Rattle.dactl_rules.specs.declared.reading.RuleParts.{RuleParts}
-use Rattle.dactl_rules.specs.Drawing.{made_in, mentioned_in}
-use Rattle.dactl_rules.specs.Lefts.{words, left_unbound, left_fixed, is_fixed}
+use Rattle.dactl_contractum.specs.Drawing.{made_in, mentioned_in}
+use Rattle.dactl_contractum.specs.Lefts.{words, left_unbound, left_fixed, is_fixed}
 use Rattle.dactl_rules.specs.Reading.{IsRead}
 use Rattle.dactl_rules.specs.Rules.{early_faults, fixed_faults, symbols_of, meant_of, IsAnswerFor}
-use Rattle.dactl_rules.specs.Meant.{nodes_with, wake_of}
-use Rattle.dactl_rules.specs.Told.{fault_at, suspensions_in, drawn_faults}
-use Rattle.dactl_rules.proofs.Meanings.{wake_one, nodes_told}
+use Rattle.dactl_contractum.specs.Meant.{nodes_with, wake_of}
+use Rattle.dactl_contractum.specs.Told.{fault_at, suspensions_in, drawn_faults}
+use Rattle.dactl_contractum.proofs.Meanings.{wake_one, nodes_told}
 use Rattle.dactl_validity.proofs.ValidTests.{not_above as not_wider}
-use Rattle.dactl_rules.proofs.LeftSides.{left_unbound_told, left_fixed_told}
+use Rattle.dactl_contractum.proofs.LeftSides.{left_unbound_told, left_fixed_told}
 use Rattle.dactl_validity.proofs.ValidLists.{In, all_in, flat_in, map_in, get_in}
 
 -- ---- the lists

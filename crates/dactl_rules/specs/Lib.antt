@@ -1,13 +1,4 @@
-pub mod Drawing
-pub mod Numbers
-pub mod Terms
-pub mod Told
-pub mod Meant
-pub mod Writing
-pub mod Lefts
 pub mod Reading
 pub mod Rules
-pub mod Listing
 pub mod RuleLists
-pub mod Initials
 pub mod Drafts

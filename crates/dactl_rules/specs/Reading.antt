@@ -7,11 +7,11 @@ use Rattle.dactl_meaning.specs.Expansion.{variables_of, root_names, rule_expansi
 use Rattle.dactl_meaning.specs.Contractum.{term_of_part}
 use Rattle.dactl_meaning.specs.RuleFaults.{lefts_of, suspendable}
 use Rattle.dactl_rules.specs.declared.reading.RuleParts.{RuleParts}
-use Rattle.dactl_rules.specs.Drawing.{made_in}
-use Rattle.dactl_rules.specs.Lefts.{words}
+use Rattle.dactl_contractum.specs.Drawing.{made_in}
+use Rattle.dactl_contractum.specs.Lefts.{words}
 use Rattle.dactl_names.specs.Found.{found}
-use Rattle.dactl_rules.specs.Numbers.{node_number}
-use Rattle.dactl_rules.specs.Terms.{AreDrawn}
+use Rattle.dactl_contractum.specs.Numbers.{node_number}
+use Rattle.dactl_contractum.specs.Terms.{AreDrawn}
 use Rattle.dactl_validity.specs.Counting.{AreCounted}
 
 -- this is what the rule's tree says

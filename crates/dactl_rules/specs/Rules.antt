@@ -19,10 +19,10 @@ use Rattle.dactl_meaning.specs.RuleFaults.{each_at, again, place_of, head_is, is
 use Rattle.dactl_symbols.specs.Sights.{Sights}
 use Rattle.dactl_symbols.specs.Scoping.{seen_in, class_in}
 use Rattle.dactl_rules.specs.declared.reading.RuleParts.{RuleParts}
-use Rattle.dactl_rules.specs.Drawing.{made_in, mentioned_in}
-use Rattle.dactl_rules.specs.Lefts.{words, left_unbound, left_fixed}
-use Rattle.dactl_rules.specs.Meant.{nodes_with, wake_of}
-use Rattle.dactl_rules.specs.Told.{fault_at, symbol_at, suspensions_in, drawn_faults}
+use Rattle.dactl_contractum.specs.Drawing.{made_in, mentioned_in}
+use Rattle.dactl_contractum.specs.Lefts.{words, left_unbound, left_fixed}
+use Rattle.dactl_contractum.specs.Meant.{nodes_with, wake_of}
+use Rattle.dactl_contractum.specs.Told.{fault_at, symbol_at, suspensions_in, drawn_faults}
 
 -- the faults for which the expansion of the pattern is not needed, apart from those of the pattern
 abbrev pub early_faults : Sights → ℕ → RuleTree → RuleParts → List Refusal

@@ -4,13 +4,13 @@ ghost use Rattle.std.specs.List.{flat_map};
 ghost use Rattle.dactl_meaning.specs.Meaning.{rule_of};
 ghost use Rattle.dactl_meaning.specs.RuleFaults.{rule_faults};
 ghost use Rattle.dactl_patterns.specs.Table.{AreNamed};
-ghost use Rattle.dactl_rules.specs.Listing.{placed};
+ghost use Rattle.dactl_contractum.specs.Listing.{placed};
 ghost use Rattle.dactl_rules.specs.RuleLists.{Adds, AddsGroups, HasRules, terms_of, placed_groups};
 ghost use Rattle.dactl_rules.specs.RuleLists.{groups_in};
 
-use crate::listing::Placed;
 use crate::rule::rule;
 use dactl_base::refusal::{Memory, Refusal, TextFault};
+use dactl_contractum::listing::Placed;
 use dactl_meaning::tree::{Group, Item, RuleTree};
 use dactl_model::program::Rule;
 use dactl_patterns::NamedPatterns;

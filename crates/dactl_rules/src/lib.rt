@@ -1,21 +1,11 @@
-//! From the rules of a text to its program, or the first of their faults.
+//! From the rules of a text to its program, or the first of their faults: what a rule means by the
+//! expansion of its pattern and by its contractum, rule after rule.
 #![tactic(auto)]
 
 mod compiled;
 mod compiling;
-mod contractum;
-mod drawing;
-mod faults;
-mod initials;
-mod lefts;
-mod listing;
-mod meaning;
-mod overwriting;
 mod reading;
 mod roots;
 mod rule;
-mod suspending;
-mod variables;
-mod viewing;
 
 pub use compiling::program;

@@ -11,21 +11,18 @@ ghost use Rattle.dactl_symbols.specs.Least.{TellsLeast};
 ghost use Rattle.dactl_symbols.specs.Scoping.{class_in};
 ghost use Rattle.dactl_patterns.specs.Table.{AreNamed};
 ghost use Rattle.dactl_validity.specs.Counting.{AreCountable};
-ghost use Rattle.dactl_rules.specs.Terms.{IsReady, AreDrawn};
-ghost use Rattle.dactl_rules.specs.Drawing.{made_in};
+ghost use Rattle.dactl_contractum.specs.Terms.{IsReady, AreDrawn};
+ghost use Rattle.dactl_contractum.specs.Drawing.{made_in};
 ghost use Rattle.dactl_names.specs.Found.{found};
-ghost use Rattle.dactl_rules.specs.Numbers.{node_number};
+ghost use Rattle.dactl_contractum.specs.Numbers.{node_number};
 ghost use Rattle.dactl_rules.specs.Rules.{early_faults as faults_before, fixed_faults};
 ghost use Rattle.dactl_rules.specs.Rules.{symbols_of, meant_of, IsAnswerFor};
 
-use crate::faults::{contractum_faults, fault_at, first};
-use crate::lefts::{are_behind, not_overwritable, redirected_twice, unbound};
-use crate::overwriting::is_rewritable;
 use crate::reading::{RuleParts, read};
-use crate::suspending::suspend;
-use crate::variables::Variables;
-use crate::viewing::Viewer;
 use dactl_base::refusal::{Kind, Memory, Place, Refusal, TextFault};
+use dactl_contractum::faults::{contractum_faults, fault_at, first};
+use dactl_contractum::lefts::{are_behind, not_overwritable, redirected_twice, unbound};
+use dactl_contractum::{Variables, Viewer, is_rewritable};
 use dactl_meaning::tree::{Name, RuleTree};
 use dactl_model::program::{Body, Pat, Rule};
 use dactl_patterns::{Examined, NamedPatterns, examine};
@@ -136,8 +133,7 @@ fn meant(
     let fresh = contractum.fresh(alloc, variables, symbols)?;
     let moves = contractum.moves(alloc, variables, tree.redirects, tree.parts.as_slice())?;
     let wakes = contractum.wakes(alloc, variables)?;
-    let mentions = contractum.drawing.mentions.as_slice();
-    let suspend = suspend(&parts.suspendable, mentions);
+    let suspend = contractum.suspend(&parts.suspendable);
     let body = Body::Written {
         fresh,
         moves,

@@ -1,7 +1,7 @@
 use Rattle.std.proofs.Common.{map, refl, subst}
 use Rattle.std.specs.List.{flat_map}
 use Rattle.std.proofs.lemmas.List.{take_all}
-use Rattle.dactl_rules.specs.Listing.{placed}
+use Rattle.dactl_contractum.specs.Listing.{placed}
 use Rattle.dactl_rules.specs.RuleLists.{HasRules, groups_in}
 use Rattle.dactl_rules.proofs.RuleLists.{groups_of_items_more, rules_all}
 use Rattle.dactl_rules.proofs.compiled.rules.Goals as goal

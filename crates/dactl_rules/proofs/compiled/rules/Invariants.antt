@@ -1,6 +1,6 @@
 use Rattle.std.proofs.Common.{map, take}
 use Rattle.std.specs.List.{flat_map}
-use Rattle.dactl_rules.specs.Listing.{placed}
+use Rattle.dactl_contractum.specs.Listing.{placed}
 use Rattle.dactl_rules.specs.RuleLists.{AddsGroups, groups_in}
 use Rattle.dactl_rules.proofs.compiled.rules.Given as goal
 

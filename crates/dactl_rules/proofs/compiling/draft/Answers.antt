@@ -4,9 +4,9 @@ use Rattle.dactl_meaning.specs.Declarations.{Placed}
 use Rattle.dactl_meaning.specs.Meaning.{named_faults}
 use Rattle.dactl_symbols.specs.Least.{sooner, TellsLeast}
 use Rattle.dactl_symbols.specs.Scoping.{seen_in}
-use Rattle.dactl_rules.specs.Initials.{initials_in, AreRead}
+use Rattle.dactl_contractum.specs.Initials.{initials_in, AreRead}
 use Rattle.dactl_rules.specs.RuleLists.{groups_in, HasRules}
-use Rattle.dactl_rules.proofs.RuleLists.{both_none}
+use Rattle.dactl_contractum.proofs.Least.{both_none}
 use Rattle.dactl_rules.proofs.WholePrograms.{draft_is}
 use Rattle.dactl_rules.proofs.compiling.draft.Goals as goal
 

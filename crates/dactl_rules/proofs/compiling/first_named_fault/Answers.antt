@@ -3,7 +3,7 @@ use Rattle.std.specs.List.{flat_map}
 use Rattle.std.proofs.lemmas.List.{take_all}
 use Rattle.dactl_meaning.specs.Meaning.{named_faults}
 use Rattle.dactl_symbols.specs.Least.{TellsLeast}
-use Rattle.dactl_rules.specs.Listing.{placed}
+use Rattle.dactl_contractum.specs.Listing.{placed}
 use Rattle.dactl_rules.proofs.WholePrograms.{named_more}
 use Rattle.dactl_rules.proofs.compiling.first_named_fault.Goals as goal
 

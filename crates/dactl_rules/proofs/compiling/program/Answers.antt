@@ -9,8 +9,8 @@ use Rattle.dactl_symbols.specs.Least.{TellsLeast}
 use Rattle.dactl_rules.specs.Drafts.{IsDraft}
 use Rattle.dactl_symbols.specs.Scoping.{seen_in}
 use Rattle.dactl_symbols.specs.Sights.{Sights}
-use Rattle.dactl_rules.specs.Initials.{first_start, initials_in}
-use Rattle.dactl_rules.specs.Listing.{placed}
+use Rattle.dactl_contractum.specs.Initials.{first_start, initials_in}
+use Rattle.dactl_contractum.specs.Listing.{placed}
 use Rattle.dactl_rules.proofs.WholePrograms.{cycle_due, late_least, program_is, valid}
 use Rattle.dactl_rules.proofs.compiling.program.Goals as goal
 

@@ -3,7 +3,7 @@ use Rattle.dactl_meaning.specs.declared.tree.TermTree.{TermTree}
 use Rattle.dactl_meaning.specs.Contractum.{term_of_part}
 use Rattle.dactl_meaning.specs.Expansion.{named_count, named_expansion, variables_of}
 use Rattle.dactl_meaning.specs.RuleFaults.{lefts_of}
-use Rattle.dactl_rules.specs.Terms.{seen, AreDrawn}
+use Rattle.dactl_contractum.specs.Terms.{seen, AreDrawn}
 use Rattle.dactl_rules.proofs.reading.read.Goals as goal
 
 pub returns : goal.returns

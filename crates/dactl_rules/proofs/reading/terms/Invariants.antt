@@ -1,6 +1,6 @@
 use Rattle.std.proofs.Common.{◌≡◌, map, take}
 use Rattle.dactl_meaning.specs.Contractum.{term_of_part}
-use Rattle.dactl_rules.specs.Terms.{seen}
+use Rattle.dactl_contractum.specs.Terms.{seen}
 use Rattle.dactl_rules.proofs.reading.terms.Given as goal
 
 abbrev pub invariant-loop-part : goal.invariant-loop-part

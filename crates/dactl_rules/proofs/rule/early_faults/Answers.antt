@@ -6,9 +6,9 @@ use Rattle.dactl_base.specs.declared.refusal.Refusal.{Refusal}
 use Rattle.dactl_meaning.specs.declared.tree.Name.{Name}
 use Rattle.dactl_meaning.specs.Expansion.{is_among}
 use Rattle.dactl_meaning.specs.RuleFaults.{each_at, again, place_of, head_is, is_class}
-use Rattle.dactl_rules.specs.Lefts.{words, left_unbound}
-use Rattle.dactl_rules.specs.Told.{fault_at, drawn_faults}
-use Rattle.dactl_rules.specs.Drawing.{made_in, mentioned_in}
+use Rattle.dactl_contractum.specs.Lefts.{words, left_unbound}
+use Rattle.dactl_contractum.specs.Told.{fault_at, drawn_faults}
+use Rattle.dactl_contractum.specs.Drawing.{made_in, mentioned_in}
 use Rattle.dactl_symbols.specs.Scoping.{seen_in, class_in}
 use Rattle.dactl_model.specs.declared.program.Class.TheVariants as classes
 use Rattle.dactl_rules.proofs.rule.early_faults.Goals as goal

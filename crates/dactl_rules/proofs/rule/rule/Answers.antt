@@ -12,7 +12,7 @@ use Rattle.dactl_patterns.specs.Expanded.{IsExpansion}
 use Rattle.dactl_validity.specs.Counting.{AreCounted}
 use Rattle.dactl_rules.specs.Rules.{meant_of, IsAnswerFor}
 use Rattle.dactl_symbols.specs.Scoping.{seen_in}
-use Rattle.dactl_rules.proofs.Meanings.{symbols_many}
+use Rattle.dactl_contractum.proofs.Meanings.{symbols_many}
 use Rattle.dactl_rules.proofs.WholeRules.{few_variables, whole_told, answer_due, meant_is}
 use Rattle.dactl_rules.proofs.rule.rule.Goals as goal
 

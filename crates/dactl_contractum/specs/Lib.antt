@@ -1,0 +1,9 @@
+pub mod Drawing
+pub mod Numbers
+pub mod Terms
+pub mod Told
+pub mod Meant
+pub mod Writing
+pub mod Lefts
+pub mod Listing
+pub mod Initials

@@ -1,6 +1,0 @@
-use Rattle.std.proofs.Common.{take}
-use Rattle.dactl_rules.specs.Terms.{seen, AreDrawn}
-use Rattle.dactl_rules.proofs.contractum.draw.Given as goal
-
-abbrev pub invariant-loop-tree : goal.invariant-loop-tree
-invariant-loop-tree l = AreDrawn (seen (take l.tree-index l.terms)) l.drawing l.targets.items

@@ -1,8 +1,0 @@
-use Rattle.std.proofs.Common.{◌≡◌, ℕ, List, take, map}
-use Rattle.dactl_rules.specs.Drawing.{sketch_of}
-use Rattle.dactl_names.specs.Found.{found}
-use Rattle.dactl_rules.specs.Numbers.{node_number}
-use Rattle.dactl_rules.proofs.contractum.given.Given as goal
-
-abbrev pub invariant-loop-number : goal.invariant-loop-number
-invariant-loop-number l = (w : List ℕ) → found l.numbers w ≡ node_number (map sketch_of (take l.number l.made)) w
