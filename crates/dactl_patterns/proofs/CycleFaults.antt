@@ -1,5 +1,5 @@
 -- The faults of named patterns that reach themselves, as they are found.
-use Rattle.std.proofs.Common.{◌≡◌, ℕ, ◌+◌, ◌<◌, ◌⊎◌, inl, inr, List, [], ◌∷◌, ◌++◌, length, take, get_or, Option, Some, None, refl, sym, ap, subst}
+use Rattle.std.proofs.Common.{◌≡◌, ℕ, ◌+◌, ◌<◌, ◌⊎◌, inl, inr, List, [], ◌∷◌, ◌++◌, length, take, get_or, Option, sym, ap, subst}
 use Rattle.std.specs.Prelude.{Any}
 use Rattle.std.proofs.lemmas.List.{take_more}
 use Rattle.dactl_base.specs.declared.refusal.Place.{Place}
@@ -9,20 +9,14 @@ use Rattle.dactl_meaning.specs.declared.tree.Item.{Item}
 use Rattle.dactl_meaning.specs.declared.tree.Item.TheVariants as item
 use Rattle.dactl_meaning.specs.declared.tree.Text.{Text}
 use Rattle.dactl_meaning.specs.Declarations.{items}
-use Rattle.dactl_meaning.specs.Faults.{Precedes}
 use Rattle.dactl_meaning.specs.Meaning.{NamedPattern, IsCycleAt, CycleFault}
 use Rattle.dactl_symbols.specs.Least.{sooner, TellsLeast}
 use Rattle.dactl_symbols.proofs.Sooner.{Any-nil, tells-same, tells-sooner}
 use Rattle.dactl_patterns.specs.declared.declarations.Declared.{Declared}
-use Rattle.dactl_patterns.specs.Cycling.{ReachesItself}
 use Rattle.dactl_patterns.specs.Cycles.{declared_at, declared, all_declared, DeclaredCycle, SomeCycle}
 use Rattle.dactl_patterns.proofs.Somewhere.{any_split, any_join, any_one, one_any, any_given, given_any}
-use Rattle.dactl_patterns.proofs.Told.{not_before_itself}
 
 -- ---- one named pattern after the other
-
-pub none_yet : (text : Text) → TellsLeast (SomeCycle text []) None
-none_yet text = λ r any. Any-nil (λ p. DeclaredCycle text p r) any
 
 pub one_more : (text : Text) (patterns : List Declared) (i : ℕ) (d : Declared) (so_far here : Option Refusal) → i < length patterns → TellsLeast (SomeCycle text (take i patterns)) so_far → TellsLeast (DeclaredCycle text (get_or patterns i d)) here → TellsLeast (SomeCycle text (take (i + 1) patterns)) (sooner so_far here)
 one_more text patterns i d so_far here below before now =
@@ -36,12 +30,6 @@ one_more text patterns i d so_far here below before now =
   where
     of : Refusal → Declared → Type 0
     of r p = DeclaredCycle text p r
-
--- a named pattern that reaches itself has one fault
-pub cycle_found : (text : Text) (p : Declared) → ReachesItself text p.pattern → TellsLeast (DeclaredCycle text p) (Some (record { kind = kinds.PatternCycle; place = p.place }))
-cycle_found text p reaches =
-    let fault : Refusal = record { kind = kinds.PatternCycle; place = p.place } in
-    record { holds = (refl, reaches); least = λ other h before. not_before_itself fault (let P : Refusal → Type 0 = λ z. Precedes z fault in subst P h.0 before) }
 
 -- ---- the faults of the text
 
@@ -57,20 +45,14 @@ module _ (text : Text) (r : Refusal) where
   one_fault place kind byte = λ j. record { kind = kind j; place = record { byte = byte j } }
 
   from_item : (a : NamedPattern) (i : Item) → Any Found (declared_at a i) → Has a i
-  from_item a (item.Imports names) any = absurd (Any-nil Found any)
-  from_item a (item.Symbols class public names) any = absurd (Any-nil Found any)
   from_item a (item.Named public name pattern) any =
       let this = any_one Found (record { pattern = a; place = name.place }) any in
       (ap (λ (z : Refusal). z.kind) this.0, (ap (λ (z : Refusal). z.place.byte) this.0, this.1))
-  from_item a (item.Rules groups) any = absurd (Any-nil Found any)
-  from_item a (item.Initial place terms) any = absurd (Any-nil Found any)
+  from_item a _ any = absurd (Any-nil Found any)
 
   to_item : (a : NamedPattern) (i : Item) → Has a i → Any Found (declared_at a i)
-  to_item a (item.Imports names) has = absurd has.1
-  to_item a (item.Symbols class public names) has = absurd has.1
   to_item a (item.Named public name pattern) has = one_any Found (record { pattern = a; place = name.place }) (one_fault name.place has.0 has.1.0, has.1.1)
-  to_item a (item.Rules groups) has = absurd has.1
-  to_item a (item.Initial place terms) has = absurd has.1
+  to_item a _ has = absurd has.1
 
   found_fault : SomeCycle text (all_declared text) r → CycleFault text r
   found_fault some =

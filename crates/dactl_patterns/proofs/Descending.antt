@@ -41,11 +41,8 @@ abbrev Is : NamedPattern → Declared → Type 0
 Is a p = p.pattern ≡ a
 
 item_declared : (a : NamedPattern) (i : Item) (tree : PatternTree) → item_pattern i ≡ Some tree → Any (Is a) (declared_at a i)
-item_declared a (item.Imports names) tree is = absurd (none_some is)
-item_declared a (item.Symbols class public names) tree is = absurd (none_some is)
 item_declared a (item.Named public name pattern) tree is = one_any (Is a) (record { pattern = a; place = name.place }) refl
-item_declared a (item.Rules groups) tree is = absurd (none_some is)
-item_declared a (item.Initial place terms) tree is = absurd (none_some is)
+item_declared a _ tree is = absurd (none_some is)
 
 abbrev Declares : NamedPattern → Placed → Type 0
 Declares a p = Any (Is a) (declared p)

@@ -7,6 +7,7 @@ use Rattle.std.specs.Cmp.Lexicographic.{slice_cmp}
 use Rattle.std.specs.Ordering.{nat_cmp}
 use Rattle.std.specs.Str.{bytes_eq}
 use Rattle.std.proofs.lemmas.List.{append-nil, at_drop_more}
+use Rattle.std.proofs.lemmas.List.Folds.{list_any-append}
 use Rattle.std.proofs.lemmas.List.Elements.{filter-append}
 use Rattle.std.proofs.lemmas.Map.Text.{is_eq-slice_cmp}
 use Rattle.dactl_meaning.specs.Expansion.{is_among, each_once, number_in}
@@ -18,13 +19,8 @@ or_false : (b : Bool) → (b || false) ≡ b
 or_false true = refl
 or_false false = refl
 
-or_assoc : (a b c : Bool) → (a || (b || c)) ≡ ((a || b) || c)
-or_assoc true b c = refl
-or_assoc false b c = refl
-
 among-push : (names : List (List ℕ)) (w v : List ℕ) → is_among (names ++ w ∷ []) v ≡ (is_among names v || bytes_eq w v)
-among-push [] w v = or_false (bytes_eq w v)
-among-push (u ∷ names) w v = ap (λ b. bytes_eq u v || b) (among-push names w v) ∙ or_assoc (bytes_eq u v) (is_among names v) (bytes_eq w v)
+among-push names w v = list_any-append (λ u. bytes_eq u v) names (w ∷ []) ∙ ap (λ b. is_among names v || b) (or_false (bytes_eq w v))
 
 each_once-push : (names : List (List ℕ)) (w : List ℕ) → each_once (names ++ w ∷ []) ≡ (if is_among names w then each_once names else each_once names ++ w ∷ [])
 each_once-push [] w = refl
@@ -50,13 +46,10 @@ cond_or false b = sym (or_false b)
 
 -- what a set has after a name is put in
 pub inserted_word : (old new : BTreeSet (Bor (List ℕ))) (name : Bor (List ℕ)) → Updates (λ x y. slice_cmp nat_cmp x.now y.now) old new name true → has_word new ≡ with_word (has_word old) name.now
-inserted_word old new name updates = λ j w. by w j
-  where
-    by : (w : List ℕ) → has_word new w ≡ with_word (has_word old) name.now w
-    by w =
-        updates.0 (record { ref_ptr = (0, 0); now = w })
-        ∙ ap (λ b. cond b true (has_word old w)) (is_eq-slice_cmp name.now w)
-        ∙ cond_or (bytes_eq name.now w) (has_word old w)
+inserted_word old new name updates = λ j w.
+    (updates.0 (record { ref_ptr = (0, 0); now = w })
+    ∙ ap (λ b. cond b true (has_word old w)) (is_eq-slice_cmp name.now w)
+    ∙ cond_or (bytes_eq name.now w) (has_word old w)) j
 
 -- ---- one place of a variable after the other
 

@@ -3,6 +3,7 @@ use Rattle.std.proofs.Common.{◌≡◌, ℕ, ◌<◌, ◌≤◌, Bool, true, fa
 use Rattle.std.specs.Prelude.{not, ◌&&◌, ◌||◌, filter, nat_lt, is_some, Contains, IfSome, if◌then◌else◌}
 use Rattle.std.specs.List.{flat_map}
 use Rattle.std.specs.Str.{bytes_eq}
+use Rattle.std.proofs.lemmas.Bool.{ltb-false, lt-ltb, le-ltb, or_left, or_right, or_from}
 use Rattle.std.proofs.lemmas.Slice.Eq.{bytes_eq-Decides}
 use Rattle.std.proofs.lemmas.List.Elements.{Contains-append_left, Contains-append_right}
 use Rattle.dactl_base.specs.declared.refusal.Place.{Place}
@@ -18,7 +19,7 @@ use Rattle.dactl_meaning.specs.Expansion.{Occurrence, is_among, each_once, occur
 use Rattle.dactl_meaning.specs.RuleFaults.{again, place_of, each_at, at_if, widths, binders_in_choice, named_twice_in_pattern, wide_in_pattern, pattern_faults}
 use Rattle.dactl_patterns.specs.declared.occurrences.Occurrence as code
 use Rattle.dactl_patterns.specs.declared.occurrences.Found.{Found}
-use Rattle.dactl_patterns.specs.Occurring.{seen, used, HasFound}
+use Rattle.dactl_patterns.specs.Occurring.{seen, HasFound}
 use Rattle.dactl_patterns.specs.Naming.{names_in, with_word}
 use Rattle.dactl_patterns.specs.TreeFaults as spec
 use Rattle.dactl_patterns.specs.TreeFaults.{fault_if, none_given, twice_faults, faults_with}
@@ -115,42 +116,29 @@ counted_is text owner false tree variables o is same = ap (λ v. expansion_by (s
 
 pub counted_few : (named : Bool) (variables : List (List ℕ)) (o : Option (List (List ℕ))) → o ≡ variables_counted named variables → (not named && nat_lt 64 (length variables)) ≡ false → IfSome o (λ v. length v < 256)
 counted_few true variables o is few = subst (λ (z : Option (List (List ℕ))). IfSome z (λ v. length v < 256)) (sym is) tt
-counted_few false variables o is few = subst (λ (z : Option (List (List ℕ))). IfSome z (λ v. length v < 256)) (sym is) (below (length variables) few)
-  where
-    below : (n : ℕ) → nat_lt 64 n ≡ false → n < 256
-    below n test = grind arith
+counted_few false variables o is few =
+    let below : length variables < 256 = omega (arith, ltb-false 64 (length variables) few) in
+    subst (λ (z : Option (List (List ℕ))). IfSome z (λ v. length v < 256)) (sym is) below
 
 nodes_as : (text : Text) (owner : ℕ) (named : Bool) (tree : PatternTree) → pattern_nodes (expansion_as named text owner tree) ≡ pattern_nodes (pattern_expansion text owner tree)
 nodes_as text owner true tree = refl
 nodes_as text owner false tree = same_nodes (sees text owner) (named_expansion text (named_count text)) (variables_of tree) tree
 
-or_true : (a : Bool) → (a || true) ≡ true
-or_true true = refl
-or_true false = refl
-
 -- too many variables, or too many nodes
 pub many_wide : (text : Text) (owner : ℕ) (named : Bool) (tree : PatternTree) (variables : List (List ℕ)) → variables ≡ variables_of tree → (not named && nat_lt 64 (length variables)) ≡ true → is_wide text owner named tree ≡ true
 many_wide text owner named tree variables same many =
-    let nodes = nat_lt 64 (pattern_nodes (pattern_expansion text owner tree)) in
-    ap (λ (v : List (List ℕ)). nodes || (not named && nat_lt 64 (length v))) (sym same) ∙ ap (λ (b : Bool). nodes || b) many ∙ or_true nodes
-
-above : (n : ℕ) → 64 < n → nat_lt 64 n ≡ true
-above n less = grind arith
-
-not_above : (n : ℕ) → n ≤ 64 → nat_lt 64 n ≡ false
-not_above n le = grind arith
+    or_right (nat_lt 64 (pattern_nodes (pattern_expansion text owner tree))) _ (ap (λ (v : List (List ℕ)). not named && nat_lt 64 (length v)) (sym same) ∙ many)
 
 pub large_wide : (text : Text) (owner : ℕ) (named : Bool) (tree : PatternTree) (p : Pat) → p ≡ expansion_as named text owner tree → 64 < pattern_nodes p → is_wide text owner named tree ≡ true
 large_wide text owner named tree p is large =
     let nodes : pattern_nodes p ≡ pattern_nodes (pattern_expansion text owner tree) = ap pattern_nodes is ∙ nodes_as text owner named tree in
-    ap (λ (b : Bool). b || (not named && nat_lt 64 (length (variables_of tree)))) (above (pattern_nodes (pattern_expansion text owner tree)) (omega arith))
+    or_left _ _ (lt-ltb 64 (pattern_nodes (pattern_expansion text owner tree)) (omega arith))
 
 pub small_narrow : (text : Text) (owner : ℕ) (named : Bool) (tree : PatternTree) (variables : List (List ℕ)) (p : Pat) → variables ≡ variables_of tree → (not named && nat_lt 64 (length variables)) ≡ false → p ≡ expansion_as named text owner tree
     → pattern_nodes p ≤ 64 → is_wide text owner named tree ≡ false
 small_narrow text owner named tree variables p same few is small =
     let nodes : pattern_nodes p ≡ pattern_nodes (pattern_expansion text owner tree) = ap pattern_nodes is ∙ nodes_as text owner named tree in
-    ap (λ (b : Bool). b || (not named && nat_lt 64 (length (variables_of tree)))) (not_above (pattern_nodes (pattern_expansion text owner tree)) (omega arith))
-    ∙ ap (λ (v : List (List ℕ)). not named && nat_lt 64 (length v)) (sym same) ∙ few
+    or_from _ _ (le-ltb 64 (pattern_nodes (pattern_expansion text owner tree)) (omega arith)) (ap (λ (v : List (List ℕ)). not named && nat_lt 64 (length v)) (sym same) ∙ few)
 
 -- a pattern has no expansion just where it is too wide
 pub none_wide : (text : Text) (owner : ℕ) (named : Bool) (tree : PatternTree) (o : Option Pat) (none : Bool) → is_some o ≡ not none → IsExpansion text owner named tree o → none ≡ is_wide text owner named tree

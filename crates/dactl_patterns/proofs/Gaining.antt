@@ -1,8 +1,8 @@
 -- A list of named patterns that gains those it lacks.
 use Rattle.std.proofs.Common.{◌≡◌, ◌<◌, Bool, true, false, inl, inr, List, [], ◌∷◌, ◌++◌, length, refl, sym, ap, ◌∙◌, subst, append_assoc, arith}
-use Rattle.std.specs.Prelude.{Contains, ◌==◌, ◌&&◌, if◌then◌else◌}
+use Rattle.std.specs.Prelude.{Contains, ◌==◌, if◌then◌else◌}
 use Rattle.std.specs.List.{list_any}
-use Rattle.std.proofs.lemmas.Bool.{eqb-true, eq-eqb}
+use Rattle.std.proofs.lemmas.Bool.{and_parts, eqb-true, eq-eqb}
 use Rattle.std.proofs.lemmas.List.{append-nil}
 use Rattle.std.proofs.lemmas.List.Elements.{Contains-append_left, Contains-append_right, Contains-append_cases, Contains-push_cases}
 use Rattle.std.proofs.lemmas.List.Folds.{list_any_at}
@@ -20,13 +20,9 @@ one_in x y has = elim (Contains-push_cases [] x y has) [ inl none ↦ absurd (no
 
 -- ---- the test of two named patterns by both of their numbers
 
-both_true : (p q : Bool) → (p && q) ≡ true → (p ≡ true) × (q ≡ true)
-both_true true q e = (refl, e)
-both_true false q e = cc
-
 pub same-true : (a b : NamedPattern) → is_same a b ≡ true → a ≡ b
 same-true a b e =
-    let both = both_true (a.0 == b.0) (a.1 == b.1) e in
+    let both = and_parts (a.0 == b.0) (a.1 == b.1) e in
     λ j. (eqb-true a.0 b.0 both.0 j, eqb-true a.1 b.1 both.1 j)
 
 true-same : (a : NamedPattern) → is_same a a ≡ true

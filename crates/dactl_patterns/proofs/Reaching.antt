@@ -1,8 +1,9 @@
 -- What a named pattern reaches.
-use Rattle.std.proofs.Common.{◌≡◌, ℕ, zero, suc, ◌+◌, ◌<◌, ◌≤◌, ◌⊎◌, inl, inr, List, [], ◌∷◌, ◌++◌, map, length, get_or, Option, Some, None, refl, sym, ap, ◌∙◌, subst, arith, length-append}
+use Rattle.std.proofs.Common.{◌≡◌, ℕ, ◌+◌, ◌<◌, ◌≤◌, ◌⊎◌, inl, inr, List, [], ◌∷◌, ◌++◌, map, length, get_or, Option, Some, None, refl, sym, ap, ◌∙◌, subst, arith, length-append}
 use Rattle.std.specs.Prelude.{Any, Contains, slice_get}
 use Rattle.std.specs.List.{flat_map, filter_map, cons_option}
-use Rattle.std.proofs.lemmas.List.{map-append}
+use Rattle.std.proofs.lemmas.Bool.{cases_lt}
+use Rattle.std.proofs.lemmas.List.{map-append, get_or_append_left}
 use Rattle.std.proofs.lemmas.List.Elements.{Contains-append_left, Contains-append_right, Contains-append_cases}
 use Rattle.std.proofs.lemmas.Option.{slice_get_within, get_or_from_slice_get}
 use Rattle.dactl_meaning.specs.declared.tree.Name.{Name}
@@ -28,9 +29,8 @@ use Rattle.dactl_meaning.proofs.Induction.{Each, EachLink, pattern_induction}
 -- ---- names as a list
 
 seen-as : (b : NamedPattern) (o : Option Seen) → IsSeenAs b o → seen_pattern o ≡ Some b
-seen-as b None is = absurd is
-seen-as b (Some (SeenSymbol f class)) is = absurd is
 seen-as b (Some (SeenPattern m i)) is = ap Some (sym is)
+seen-as b _ is = absurd is
 
 as-seen : (b : NamedPattern) (o : Option Seen) → seen_pattern o ≡ Some b → IsSeenAs b o
 as-seen b None e = cc
@@ -164,15 +164,6 @@ walk_begins text a old keys empty gains = record {
   within = omega arith;
 }
 
--- what stands before the end of a list stands there after more
-stays : (keys new : List NamedPattern) (more : List NamedPattern) (k : ℕ) (d : NamedPattern) → new ≡ keys ++ more → k < length keys → get_or new k d ≡ get_or keys k d
-stays keys new more k d is below = ap (λ l. get_or l k d) is ∙ before keys more k d below
-  where
-    before : (keys more : List NamedPattern) (k : ℕ) (d : NamedPattern) → k < length keys → get_or (keys ++ more) k d ≡ get_or keys k d
-    before [] more k d below = absurd (omega arith)
-    before (x ∷ keys) more zero d below = refl
-    before (x ∷ keys) more (suc k) d below = before keys more k d (omega arith)
-
 pub walk_goes_on : (text : Text) (a : NamedPattern) (keys new : List NamedPattern) (at : ℕ) (next : NamedPattern) → Walked text a keys at → slice_get keys at ≡ Some next → Gains keys (named_from text next) new → Walked text a new (at + 1)
 walk_goes_on text a keys new at next walked found gains =
     let below : at < length keys = slice_get_within keys at next found in
@@ -180,10 +171,12 @@ walk_goes_on text a keys new at next walked found gains =
     let longer : length new ≡ length keys + length gains.grown.0 = ap length gains.grown.1 ∙ length-append keys gains.grown.0 in
     record {
       start = λ x has. older x (walked.start x has);
-      closed = λ k d less x has. elim (split k at less) [
-        | inl before ↦ older x (walked.closed k d before x (subst (λ (z : NamedPattern). Contains (named_from text z) x) (stays keys new gains.grown.0 k d gains.grown.1 (omega (arith, before, below))) has))
-        | inr here ↦ gains.each x (subst (λ (z : NamedPattern). Contains (named_from text z) x) (stays keys new gains.grown.0 k d gains.grown.1 (omega (arith, here, below)) ∙ ap (λ j. get_or keys j d) here ∙ place d) has)
-      ];
+      closed = λ k d less x has.
+          let there : get_or new k d ≡ get_or keys k d = ap (λ l. get_or l k d) gains.grown.1 ∙ get_or_append_left keys gains.grown.0 d k (omega arith) in
+          elim (cases_lt k at) [
+            | inl before ↦ older x (walked.closed k d before x (subst (λ (z : NamedPattern). Contains (named_from text z) x) there has))
+            | inr past ↦ (let here : k ≡ at = omega arith in gains.each x (subst (λ (z : NamedPattern). Contains (named_from text z) x) (there ∙ ap (λ j. get_or keys j d) here ∙ place d) has))
+          ];
       sound = λ x has. elim (gains.only x has) [
         | inl before ↦ walked.sound x before
         | inr named ↦ (let way = walked.sound next (at, below, place next) in (way.0 ++ next ∷ [], path_then text a next x way.0 way.1 (listed_names text next x named)))
@@ -193,9 +186,6 @@ walk_goes_on text a keys new at next walked found gains =
   where
     older : (x : NamedPattern) → Contains keys x → Contains new x
     older x has = subst (λ (l : List NamedPattern). Contains l x) (sym gains.grown.1) (Contains-append_left keys gains.grown.0 x has)
-
-    split : (k at : ℕ) → k < at + 1 → (k < at) ⊎ (k ≡ at)
-    split k at less = grind arith
 
 -- at its end the walk has reached all that there is to reach
 pub walk_ends : (text : Text) (a : NamedPattern) (keys : List NamedPattern) (at : ℕ) → Walked text a keys at → length keys ≤ at → (Contains keys a → ReachesItself text a) × (ReachesItself text a → Contains keys a)

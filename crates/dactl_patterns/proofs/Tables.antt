@@ -28,13 +28,11 @@ module _ {S : Type 0} (old new : IndexMap NamedPattern Known S) (at : NamedPatte
   pub table_more : (a : NamedPattern) (k : Known) → get is_same new a ≡ Some k → IsKnown (named a) k
   table_more a k found = by (is_same at a) refl
     where
-      same_some : Some known ≡ Some k → known ≡ k
-      same_some e = cc
-
       by : (b : Bool) → is_same at a ≡ b → IsKnown (named a) k
       by true same =
-          subst (λ (z : NamedPattern). IsKnown (named z) k) (same-true at a same)
-          (subst (IsKnown (named at)) (same_some (ap (λ (b : Bool). cond b (Some known) (get is_same old a)) (sym same) ∙ sym (updates a) ∙ found)) here)
+          let some : Some known ≡ Some k = ap (λ (b : Bool). cond b (Some known) (get is_same old a)) (sym same) ∙ sym (updates a) ∙ found in
+          let it : known ≡ k = cc in
+          subst (λ (z : NamedPattern). IsKnown (named z) k) (same-true at a same) (subst (IsKnown (named at)) it here)
       by false same = before a k (ap (λ (b : Bool). cond b (Some known) (get is_same old a)) (sym same) ∙ sym (updates a) ∙ found)
 
 -- with one named pattern more it is right from the next depth on
@@ -48,11 +46,8 @@ right_next depth old new same before step = next
 -- ---- how many named patterns are declared
 
 counts_item : (a : NamedPattern) (i : Item) (rest : List PatternTree) → length (cons_option (item_pattern i) rest) ≡ length (declared_at a i) + length rest
-counts_item a (item.Imports names) rest = omega arith
-counts_item a (item.Symbols class public names) rest = omega arith
 counts_item a (item.Named public name pattern) rest = omega arith
-counts_item a (item.Rules groups) rest = omega arith
-counts_item a (item.Initial place terms) rest = omega arith
+counts_item a _ rest = omega arith
 
 counts : (ps : List Placed) → length (filter_map (λ i. item_pattern i.item) ps) ≡ length (flat_map declared ps)
 counts [] = refl

@@ -1,6 +1,7 @@
 -- Expansions as they are made, step by step.
-use Rattle.std.proofs.Common.{◌≡◌, ℕ, zero, suc, ◌+◌, ◌-◌, ◌<◌, ◌≤◌, List, [], ◌∷◌, ◌++◌, map, length, take, drop, get_or, Option, Some, sym, ap, ◌∙◌, subst, arith}
+use Rattle.std.proofs.Common.{◌≡◌, ℕ, ◌+◌, ◌-◌, ◌<◌, ◌≤◌, List, [], ◌∷◌, ◌++◌, map, length, take, drop, get_or, Option, Some, sym, ap, ◌∙◌, subst, arith}
 use Rattle.std.specs.Prelude.{sum_by}
+use Rattle.std.proofs.lemmas.List.{drop_more}
 use Rattle.std.proofs.lemmas.List.Sums.{sum_by_more, sum_by_more_le}
 use Rattle.dactl_model.specs.declared.program.Pat.{Pat}
 use Rattle.dactl_meaning.specs.declared.tree.Sign.{Sign}
@@ -42,11 +43,7 @@ list_over of args i x most nodes below is so_far fits over =
 -- ---- links
 
 drop_at : {A : Type 0} (xs : List A) (i : ℕ) (x : A) → i < length xs → x ≡ get_or xs i x → drop i xs ≡ x ∷ drop (i + 1) xs
-drop_at [] i x below is = absurd (omega arith)
-drop_at (y ∷ ys) zero x below is = ap (λ z. z ∷ ys) (sym is)
-drop_at (y ∷ ys) (suc i) x below is =
-    let more : suc i + 1 ≡ suc (i + 1) = omega arith in
-    rw more (drop_at ys i x (omega arith) is)
+drop_at xs i x below is = drop_more xs i x below ∙ ap (λ y. y ∷ drop (i + 1) xs) (sym is)
 
 module _ (of : Sign × PatternTree → Sign × Pat) (rest : List (Sign × PatternTree)) (i : ℕ) (x : Sign × PatternTree) (folded whole : Pat) (below : i < length rest) (is : x ≡ get_or rest i x)
     (so_far : chain folded (map of (drop i rest)) ≡ whole) where

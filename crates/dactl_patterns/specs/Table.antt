@@ -1,12 +1,15 @@
 -- What is known of a text's named patterns, and that it is right.
-use Rattle.std.specs.Prelude.{◌≡◌, ℕ, suc, ◌<◌, ◌≤◌, List, Option, Some, None}
+use Rattle.std.specs.Prelude.{◌≡◌, ℕ, suc, ◌<◌, ◌≤◌, List, Option, Some, None, if◌then◌else◌}
 use Rattle.indexmap.specs.IndexMap.{get}
 use Rattle.dactl_model.specs.declared.program.Pat.{Pat}
 use Rattle.dactl_model.specs.Binders.{head}
+use Rattle.dactl_meaning.specs.declared.tree.Name.{Name}
 use Rattle.dactl_meaning.specs.declared.tree.PatternTree.{PatternTree}
-use Rattle.dactl_meaning.specs.Expansion.{pattern_nodes, expansion_by, named_expansion, named_count, at_name}
+use Rattle.dactl_meaning.specs.declared.tree.PatternTree.TheOpen.{PatternTree-F}
+use Rattle.dactl_meaning.specs.declared.tree.PatternTree.TheFolds.{fold-PatternTree}
+use Rattle.dactl_meaning.specs.Expansion.{pattern_nodes, expansion_by, named_expansion, named_count, has_plus}
 use Rattle.dactl_meaning.specs.Meaning.{NamedPattern}
-use Rattle.dactl_meaning.specs.Sight.{sees}
+use Rattle.dactl_meaning.specs.Sight.{Seen, SeenSymbol, SeenPattern, sees}
 use Rattle.dactl_symbols.specs.Scoping.{IsScopesOf}
 use Rattle.dactl_patterns.specs.declared.expanding.Small.{Small}
 use Rattle.dactl_patterns.specs.declared.named.Known.{Known}
@@ -35,9 +38,25 @@ expansion_at patterns named owner tree = expansion_by (sees patterns.text.now ow
 abbrev pub IsHead : NamedPatterns → ℕ → PatternTree → Option ℕ → Type 0
 IsHead patterns owner tree h = (named : ℕ → ℕ → Pat) (variables : Option (List (List ℕ))) → IsRight named patterns → h ≡ head (expansion_by (sees patterns.text.now owner) named variables tree)
 
+-- the head of what a name stands for
+abbrev pub head_seen : (ℕ → ℕ → Pat) → Option Seen → Option ℕ
+head_seen named None = None
+head_seen named (Some (SeenSymbol f class)) = Some f
+head_seen named (Some (SeenPattern m i)) = head (named m i)
+
 -- this is the head of what the module sees under the name
 abbrev pub IsHeadSeen : NamedPatterns → ℕ → List ℕ → Option ℕ → Type 0
-IsHeadSeen patterns owner word h = (named : ℕ → ℕ → Pat) (args : List Pat) → IsRight named patterns → h ≡ head (at_name named (sees patterns.text.now owner word) args)
+IsHeadSeen patterns owner word h = (named : ℕ → ℕ → Pat) → IsRight named patterns → h ≡ head_seen named (sees patterns.text.now owner word)
+
+-- One level: the name at the head of a pattern, through binders and left sides of differences.
+abbrev pub head_name_level : PatternTree-F (Option Name) → Option Name
+head_name_level (PatternTree-F.Sym name args) = Some name
+head_name_level (PatternTree-F.Binder name inner) = inner
+head_name_level (PatternTree-F.Chain first rest) = if has_plus rest then None else first
+head_name_level _ = None
+
+abbrev pub head_name : PatternTree → Option Name
+head_name = fold-PatternTree (Option Name) head_name_level
 
 -- this is known of a named pattern of the module with this tree
 abbrev pub IsKnownOf : NamedPatterns → ℕ → PatternTree → Known → Type 0

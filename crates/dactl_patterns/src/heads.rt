@@ -1,6 +1,7 @@
 //! The head of a pattern's expansion.
 
 ghost use Rattle.std.specs.Prelude.{◌≡◌, IfOk};
+ghost use Rattle.std.specs.Option.{option_copied};
 ghost use Rattle.dactl_symbols.specs.Scoping.{IsScopesOf};
 ghost use Rattle.dactl_patterns.specs.Table as spec;
 
@@ -26,6 +27,29 @@ fn at_name(patterns: &NamedPatterns, owner: usize, name: &Name) -> Result<Option
     }
 }
 
+/// The name at the head of a pattern.
+fn head_name(tree: &PatternTree) -> Option<&Name>
+    ensures { option_copied result ≡ spec.head_name tree.now }
+{
+    match tree {
+        PatternTree::Any
+        | PatternTree::Int
+        | PatternTree::Char
+        | PatternTree::Integer { .. }
+        | PatternTree::Letter { .. }
+        | PatternTree::Variable { .. } => None,
+        PatternTree::Sym { name, .. } => Some(name),
+        PatternTree::Binder { inner, .. } => head_name(inner.get()),
+        PatternTree::Chain { first, rest } => {
+            if has_plus(rest.as_slice()) {
+                None
+            } else {
+                head_name(first.get())
+            }
+        }
+    }
+}
+
 /// The symbol at the head of a pattern of the module, also where it is that of a named pattern.
 ///
 /// # Errors
@@ -39,21 +63,8 @@ pub fn head_symbol(
     requires { IsScopesOf patterns.now.text.now patterns.now.scopes.now }
     ensures { IfOk result (spec.IsHead patterns.now owner tree.now) }
 {
-    match tree {
-        PatternTree::Any => Ok(None),
-        PatternTree::Int => Ok(None),
-        PatternTree::Char => Ok(None),
-        PatternTree::Integer { .. } => Ok(None),
-        PatternTree::Letter { .. } => Ok(None),
-        PatternTree::Variable { .. } => Ok(None),
-        PatternTree::Sym { name, .. } => at_name(patterns, owner, name),
-        PatternTree::Binder { inner, .. } => head_symbol(patterns, owner, inner.get()),
-        PatternTree::Chain { first, rest } => {
-            if has_plus(rest.as_slice()) {
-                Ok(None)
-            } else {
-                head_symbol(patterns, owner, first.get())
-            }
-        }
+    match head_name(tree) {
+        Some(name) => at_name(patterns, owner, name),
+        None => Ok(None),
     }
 }

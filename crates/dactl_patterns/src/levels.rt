@@ -99,11 +99,9 @@ fn end_from(
 ) -> Result<(), Memory> {
     let mut open = Vec::new(web.alloc);
     open.push(first)?;
-    let mut left = usize::MAX;
-    'steps: while left > 0 {
-        left -= 1;
+    for _ in 0..usize::MAX {
         let Some(pattern) = open.pop() else {
-            return Ok(());
+            break;
         };
         if begun.insert(pattern)? {
             begin(web, pattern, begun, &mut open)?;
@@ -164,11 +162,9 @@ fn level_from(
 ) -> Result<(), Memory> {
     let mut open = Vec::new(alloc);
     open.push(first)?;
-    let mut left = usize::MAX;
-    'steps: while left > 0 {
-        left -= 1;
+    for _ in 0..usize::MAX {
         let Some(pattern) = open.pop() else {
-            return Ok(());
+            break;
         };
         if !levels.contains_key(&pattern) {
             levels.insert(pattern, level)?;

@@ -1,4 +1,4 @@
-use Rattle.std.proofs.Common.{◌≡◌, ◌+◌, true, false, sym, ◌∙◌, arith}
+use Rattle.std.proofs.Common.{true, false, sym, ◌∙◌, arith}
 use Rattle.dactl_patterns.proofs.Distinct.{number_step}
 use Rattle.dactl_patterns.proofs.names.number.Goals as goal
 
