@@ -3,7 +3,7 @@ use Rattle.std.proofs.Common.{◌≡◌, List, map, sym, ap, ◌∙◌}
 use Rattle.dactl_meaning.specs.declared.tree.Name.{Name}
 use Rattle.dactl_meaning.specs.declared.tree.Sign.{Sign}
 use Rattle.dactl_meaning.specs.declared.tree.PatternTree.{PatternTree}
-use Rattle.dactl_meaning.specs.declared.tree.PatternTree.TheVariants.{rolls-Variable, rolls-Binder, rolls-Chain, rolls-Sym}
+use Rattle.dactl_meaning.specs.declared.tree.PatternTree.TheVariants.{rolls-Binder, rolls-Chain, rolls-Sym}
 use Rattle.dactl_meaning.specs.declared.tree.PatternTree.TheVariants as p
 use Rattle.dactl_meaning.specs.declared.tree.PatternTree.TheOpen.{PatternTree-F}
 use Rattle.dactl_meaning.specs.declared.tree.PatternTree.TheFolds.{fold-PatternTree, fold-roll-PatternTree}
@@ -14,9 +14,6 @@ module _ {R : Type 0} (level : PatternTree-F R → R) where
 
   pub fold_symbol : (name : Name) (args : List PatternTree) → folded (p.Sym name args) ≡ level (PatternTree-F.Sym name (map folded args))
   fold_symbol name args = ap folded (sym (rolls-Sym name args)) ∙ fold-roll-PatternTree R level (PatternTree-F.Sym name args)
-
-  pub fold_variable : (name : Name) → folded (p.Variable name) ≡ level (PatternTree-F.Variable name)
-  fold_variable name = ap folded (sym (rolls-Variable name)) ∙ fold-roll-PatternTree R level (PatternTree-F.Variable name)
 
   pub fold_binder : (name : Name) (inner : PatternTree) → folded (p.Binder name inner) ≡ level (PatternTree-F.Binder name (folded inner))
   fold_binder name inner = ap folded (sym (rolls-Binder name inner)) ∙ fold-roll-PatternTree R level (PatternTree-F.Binder name inner)

@@ -1,12 +1,17 @@
 -- Expansions as they are made, step by step.
 use Rattle.std.proofs.Common.{◌≡◌, ℕ, ◌+◌, ◌-◌, ◌<◌, ◌≤◌, List, [], ◌∷◌, ◌++◌, map, length, take, drop, get_or, Option, Some, sym, ap, ◌∙◌, subst, arith}
-use Rattle.std.specs.Prelude.{sum_by}
-use Rattle.std.proofs.lemmas.List.{drop_more}
-use Rattle.std.proofs.lemmas.List.Sums.{sum_by_more, sum_by_more_le}
+use Rattle.std.specs.Prelude.{sum, sum_by}
+use Rattle.std.proofs.lemmas.List.{take_all, drop_more}
+use Rattle.std.proofs.lemmas.List.Sums.{sum_by_more, sum_by_more_le, sum-map}
+use Rattle.std.proofs.lemmas.Simd.{map-map}
 use Rattle.dactl_model.specs.declared.program.Pat.{Pat}
+use Rattle.dactl_model.specs.declared.program.Pat.TheVariants.{Sym, rolls-Sym}
+use Rattle.dactl_model.specs.declared.program.Pat.TheOpen.{Pat-F}
+use Rattle.dactl_model.specs.declared.program.Pat.TheViews.{roll-Pat}
+use Rattle.dactl_model.specs.declared.program.Pat.TheFolds.{fold-roll-Pat}
 use Rattle.dactl_meaning.specs.declared.tree.Sign.{Sign}
 use Rattle.dactl_meaning.specs.declared.tree.PatternTree.{PatternTree}
-use Rattle.dactl_meaning.specs.Expansion.{at_variable, join, chain, pattern_nodes}
+use Rattle.dactl_meaning.specs.Expansion.{at_variable, join, chain, pattern_nodes, pattern_nodes_level}
 use Rattle.dactl_symbols.proofs.Walks.{mapped-more}
 use Rattle.dactl_patterns.specs.declared.expanding.Small.{Small}
 use Rattle.dactl_patterns.specs.Table.{IsWithin}
@@ -21,24 +26,42 @@ within_bound most variables x a inner s within pat nodes = (pat ∙ ap (at_varia
 
 -- ---- arguments
 
--- one argument more
-pub list_more : (of : PatternTree → Pat) (args : List PatternTree) (i : ℕ) (x : PatternTree) (pats next : List Pat) (nodes : ℕ) (s : Small) → i < length args → x ≡ get_or args i x
-    → (pats ≡ map of (take i args)) × (nodes ≡ sum_by (λ t. pattern_nodes (of t)) (take i args)) → (s.pat ≡ of x) × (s.nodes ≡ pattern_nodes (of x)) → next ≡ pats ++ s.pat ∷ []
-    → (next ≡ map of (take (i + 1) args)) × (nodes + s.nodes ≡ sum_by (λ t. pattern_nodes (of t)) (take (i + 1) args))
-list_more of args i x pats next nodes s below is so_far one pushed =
-    let f : PatternTree → ℕ = λ t. pattern_nodes (of t) in
-    let same : f x ≡ f (get_or args i x) = ap f is in (
-      pushed ∙ ap (λ k. k ++ s.pat ∷ []) so_far.0 ∙ ap (λ z. map of (take i args) ++ z ∷ []) one.0 ∙ sym (mapped-more of args i x below is),
-      omega (arith, sum_by_more f args i x below, same, so_far.1, one.1),
-    )
+-- these are the expansions of the trees, with as many nodes and one for their symbol
+pub record AreSmall (of : PatternTree → Pat) (trees : List PatternTree) (made : List Pat) (count : ℕ) : Type 0 where
+  pub pats : made ≡ map of trees
+  pub nodes : count ≡ 1 + sum_by (λ t. pattern_nodes (of t)) trees
 
--- one argument too many
-pub list_over : (of : PatternTree → Pat) (args : List PatternTree) (i : ℕ) (x : PatternTree) (most nodes : ℕ) → i < length args → x ≡ get_or args i x → nodes ≡ sum_by (λ t. pattern_nodes (of t)) (take i args) → nodes ≤ most
-    → most - nodes < pattern_nodes (of x) → most < sum_by (λ t. pattern_nodes (of t)) args
-list_over of args i x most nodes below is so_far fits over =
-    let f : PatternTree → ℕ = λ t. pattern_nodes (of t) in
-    let same : f x ≡ f (get_or args i x) = ap f is in
-    omega (arith, sum_by_more_le f args i x below, same)
+module _ (of : PatternTree → Pat) where
+  abbrev nodes_of : PatternTree → ℕ
+  nodes_of t = pattern_nodes (of t)
+
+  nodes_whole : (symbol : ℕ) (args : List PatternTree) → pattern_nodes (roll-Pat (Pat-F.Sym symbol (map of args))) ≡ 1 + sum_by nodes_of args
+  nodes_whole symbol args = fold-roll-Pat ℕ pattern_nodes_level (Pat-F.Sym symbol (map of args)) ∙ ap (λ n. 1 + n) (ap sum (map-map pattern_nodes of args) ∙ sum-map nodes_of args)
+
+  -- one argument more
+  pub symbol_more : (args : List PatternTree) (i : ℕ) (x : PatternTree) (pats next : List Pat) (nodes : ℕ) (s : Small) → i < length args → x ≡ get_or args i x
+      → AreSmall of (take i args) pats nodes → IsWithin 0 (of x) (Some s) → next ≡ pats ++ s.pat ∷ [] → AreSmall of (take (i + 1) args) next (nodes + s.nodes)
+  symbol_more args i x pats next nodes s below is so_far one pushed =
+      let same : nodes_of x ≡ nodes_of (get_or args i x) = ap nodes_of is in
+      record {
+        pats = pushed ∙ (λ j. so_far.pats j ++ one.0 j ∷ []) ∙ sym (mapped-more of args i x below is);
+        nodes = omega (arith, sum_by_more nodes_of args i x below, same, so_far.nodes, one.1);
+      }
+
+  -- one argument too many
+  pub symbol_over : (symbol : ℕ) (args : List PatternTree) (i : ℕ) (x : PatternTree) (pats : List Pat) (most nodes : ℕ) → i < length args → x ≡ get_or args i x → AreSmall of (take i args) pats nodes → nodes ≤ most
+      → most - nodes < nodes_of x → most < pattern_nodes (roll-Pat (Pat-F.Sym symbol (map of args)))
+  symbol_over symbol args i x pats most nodes below is so_far fits over =
+      let same : nodes_of x ≡ nodes_of (get_or args i x) = ap nodes_of is in
+      omega (arith, nodes_whole symbol args, sum_by_more_le nodes_of args i x below, same, so_far.nodes)
+
+  pub symbol_whole : (symbol : ℕ) (args : List PatternTree) (i : ℕ) (pats : List Pat) (nodes : ℕ) → length args ≤ i → AreSmall of (take i args) pats nodes
+      → (Sym symbol pats ≡ roll-Pat (Pat-F.Sym symbol (map of args))) × (nodes ≡ pattern_nodes (roll-Pat (Pat-F.Sym symbol (map of args))))
+  symbol_whole symbol args i pats nodes past so_far =
+      let all = take_all i args past in (
+        sym (rolls-Sym symbol pats) ∙ ap (λ (ps : List Pat). roll-Pat (Pat-F.Sym symbol ps)) (so_far.pats ∙ ap (map of) all),
+        so_far.nodes ∙ ap (λ (l : List PatternTree). 1 + sum_by nodes_of l) all ∙ sym (nodes_whole symbol args),
+      )
 
 -- ---- links
 

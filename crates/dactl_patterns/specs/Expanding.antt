@@ -1,5 +1,5 @@
 -- What an expansion is, by what is known of named patterns.
-use Rattle.std.specs.Prelude.{◌≡◌, ℕ, ◌<◌, List, map, length, sum_by, Option, Some, None, IfSome}
+use Rattle.std.specs.Prelude.{◌≡◌, ℕ, ◌<◌, List, map, length, Option, IfSome}
 use Rattle.std.specs.Option.{option_copied}
 use Rattle.dactl_model.specs.declared.program.Pat.{Pat}
 use Rattle.dactl_model.specs.declared.program.Pat.TheOpen.{Pat-F}
@@ -11,7 +11,6 @@ use Rattle.dactl_meaning.specs.Expansion.{expansion_by, pattern_nodes, at_name, 
 use Rattle.dactl_symbols.specs.Scoping.{IsScopesOf}
 use Rattle.dactl_patterns.specs.declared.expanding.Expander.{Expander}
 use Rattle.dactl_patterns.specs.declared.expanding.Small.{Small}
-use Rattle.dactl_patterns.specs.declared.expanding.SmallList.{SmallList}
 use Rattle.dactl_patterns.specs.Table.{IsWithin, IsRight}
 
 -- the scopes are those of the text, and the variables have numbers
@@ -44,15 +43,3 @@ ExpandsSymbol e most symbol args = Answers e most (λ named. roll-Pat (Pat-F.Sym
 -- for the links behind a first pattern
 abbrev pub ExpandsChain : Expander → ℕ → Small → List (Sign × PatternTree) → Option Small → Type 0
 ExpandsChain e most first rest r = (named : ℕ → ℕ → Pat) → IsRight named e.patterns.now → first.nodes ≡ pattern_nodes first.pat → IsWithin most (chain first.pat (map (of_link e named) rest)) r
-
--- how many nodes a tree's expansion has
-abbrev pub tree_nodes : Expander → (ℕ → ℕ → Pat) → PatternTree → ℕ
-tree_nodes e named tree = pattern_nodes (of_tree e named tree)
-
--- the expansions of trees, if they have at most so many nodes together
-abbrev pub AreWithin : Expander → ℕ → List PatternTree → (ℕ → ℕ → Pat) → Option SmallList → Type 0
-AreWithin e most trees named None = most < sum_by (tree_nodes e named) trees
-AreWithin e most trees named (Some l) = (l.pats ≡ map (of_tree e named) trees) × (l.nodes ≡ sum_by (tree_nodes e named) trees)
-
-abbrev pub ExpandsAll : Expander → ℕ → List PatternTree → Option SmallList → Type 0
-ExpandsAll e most trees r = (named : ℕ → ℕ → Pat) → IsRight named e.patterns.now → AreWithin e most trees named r

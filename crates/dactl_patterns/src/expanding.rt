@@ -26,13 +26,6 @@ pub struct Small {
     pub nodes: usize,
 }
 
-/// Patterns, and how many nodes they have together.
-#[derive(Drop)]
-struct SmallList {
-    pats: Items<Pat>,
-    nodes: usize,
-}
-
 /// What patterns of a module are expanded by: what is known of named patterns, the number of the
 /// module, and the names whose places are the numbers of variables; `None` leaves variables out.
 #[derive(Drop)]
@@ -193,27 +186,8 @@ impl Expander<'_> {
         if most == 0 {
             return Ok(None);
         }
-        match self.arguments(args, most - 1)? {
-            Some(list) => Ok(Some(Small {
-                pat: Pat::Sym {
-                    symbol,
-                    args: list.pats,
-                },
-                nodes: 1 + list.nodes,
-            })),
-            None => Ok(None),
-        }
-    }
-
-    #[cycle(expanding)]
-    fn arguments(&self, args: &[PatternTree], most: usize) -> Result<Option<SmallList>, Memory>
-        requires ready { spec.IsReady self.now }
-        requires few { most ≤ 64 }
-        ensures within { IfOk result (λ r. IfSome r (λ l. l.nodes ≤ most)) }
-        ensures are { IfOk result (spec.ExpandsAll self.now most args.now) }
-    {
         let mut pats = Items::new(self.alloc);
-        let mut nodes = 0;
+        let mut nodes = 1;
         for argument in args {
             let Some(small) = self.expand(argument, most - nodes)? else {
                 return Ok(None);
@@ -221,7 +195,8 @@ impl Expander<'_> {
             pats.push(small.pat)?;
             nodes += small.nodes;
         }
-        Ok(Some(SmallList { pats, nodes }))
+        let pat = Pat::Sym { symbol, args: pats };
+        Ok(Some(Small { pat, nodes }))
     }
 
     /// Folds the links of a chain onto its first pattern, to the left.

@@ -176,16 +176,20 @@ fn level_from(
     Ok(())
 }
 
-/// Levels of the named patterns, of which two have the same if each reaches the other: the last one
-/// to end is reached by those alone that it reaches, and so on among the others.
-fn numbered(web: &Web, patterns: &[Declared]) -> Result<Levels, Memory> {
-    let ended = ended(web, patterns)?;
-    let namers = namers(web, ended.as_slice())?;
+/// Levels of these named patterns, of which two have the same if each reaches the other: the last
+/// one to end is reached by those alone that it reaches, and so on among the others.
+fn levels_of(web: &Web, ended: &[Pattern]) -> Result<Levels, Memory> {
+    let namers = namers(web, ended)?;
     let mut levels = IndexMap::new(web.alloc);
-    for (number, pattern) in ended.as_slice().iter().enumerate().rev() {
-        level_from(web.alloc, &namers, &mut levels, *pattern, number + 1)?;
+    for number in (0..ended.len()).rev() {
+        level_from(web.alloc, &namers, &mut levels, ended[number], number + 1)?;
     }
     Ok(levels)
+}
+
+fn numbered(web: &Web, patterns: &[Declared]) -> Result<Levels, Memory> {
+    let ended = ended(web, patterns)?;
+    levels_of(web, ended.as_slice())
 }
 
 /// Levels of the named patterns. They are looked through once more: were one to name another of a

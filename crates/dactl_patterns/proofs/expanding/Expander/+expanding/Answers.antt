@@ -11,24 +11,31 @@ use Rattle.dactl_patterns.specs.declared.expanding.Small.{Small}
 use Rattle.dactl_patterns.specs.Table.{IsWithin}
 use Rattle.dactl_patterns.specs.Expanding.{of_tree, of_link}
 use Rattle.dactl_patterns.proofs.Expansions.{expands_symbol, expands_binder, expands_chain, nodes_joined, chain_first}
-use Rattle.dactl_patterns.proofs.Within.{within_as, within_bound, list_more, list_over, link_more, link_over}
+use Rattle.dactl_patterns.proofs.Within.{within_as, within_bound, symbol_more, symbol_over, symbol_whole, link_more, link_over}
 use Rattle.dactl_patterns.proofs.expanding.Expander.+expanding.Goals as goal
 
-pub arguments-returns-in_default-clause-are : goal.arguments-returns-in_default-clause-are
-arguments-returns-in_default-clause-are t c = λ named right.
+pub symbol-returns-in_default-clause-is : goal.symbol-returns-in_default-clause-is
+symbol-returns-in_default-clause-is t c = λ named right.
+    let l = c.loop-argument in
     let of : PatternTree → Pat = of_tree c.args.self.now named in
-    list_over of c.args.args.now c.loop-argument.argument-index c.argument-item.result c.args.most c.loop-argument.nodes c.loop-argument-test.true c.argument-item.is (c.loop-argument.invariant.1 named right).1 c.loop-argument.invariant.0
-    (subst (IsWithin (c.args.most - c.loop-argument.nodes) (of c.argument-item.result)) c.in_default.is (c.in_ok-small.ensures.is named right))
+    symbol_over of c.args.symbol c.args.args.now l.argument-index c.argument-item.result l.pats c.args.most l.nodes c.loop-argument-test.true c.argument-item.is (l.invariant.1 named right) l.invariant.0
+    (subst (IsWithin (c.args.most - l.nodes) (of c.argument-item.result)) c.in_default.is (c.in_ok-small.ensures.is named right))
 
-pub arguments-loop-argument-preserved : goal.arguments-loop-argument-preserved
-arguments-loop-argument-preserved t c =
-    let fits : c.in-Some.small.nodes ≤ c.args.most - c.loop-argument.nodes = subst (λ (o : Option Small). IfSome o (λ s. s.nodes ≤ c.args.most - c.loop-argument.nodes)) c.in-Some.is c.in_ok-small.ensures.within in
-    let so_far : c.loop-argument.nodes ≤ c.args.most = c.loop-argument.invariant.0 in (
+pub symbol-loop-argument-preserved : goal.symbol-loop-argument-preserved
+symbol-loop-argument-preserved t c =
+    let l = c.loop-argument in
+    let fits : c.in-Some.small.nodes ≤ c.args.most - l.nodes = subst (λ (o : Option Small). IfSome o (λ s. s.nodes ≤ c.args.most - l.nodes)) c.in-Some.is c.in_ok-small.ensures.within in
+    let so_far : l.nodes ≤ c.args.most = l.invariant.0 in (
       omega arith,
       λ named right.
-          list_more (of_tree c.args.self.now named) c.args.args.now c.loop-argument.argument-index c.argument-item.result c.loop-argument.pats c.push.new.self c.loop-argument.nodes c.in-Some.small c.loop-argument-test.true c.argument-item.is (c.loop-argument.invariant.1 named right)
-          (subst (IsWithin (c.args.most - c.loop-argument.nodes) (of_tree c.args.self.now named c.argument-item.result)) c.in-Some.is (c.in_ok-small.ensures.is named right)) c.in_ok-push.ensures.ok,
+          symbol_more (of_tree c.args.self.now named) c.args.args.now l.argument-index c.argument-item.result l.pats c.push.new.self l.nodes c.in-Some.small c.loop-argument-test.true c.argument-item.is (l.invariant.1 named right)
+          (subst (IsWithin (c.args.most - l.nodes) (of_tree c.args.self.now named c.argument-item.result)) c.in-Some.is (c.in_ok-small.ensures.is named right)) c.in_ok-push.ensures.ok,
     )
+
+pub symbol-returns-clause-is : goal.symbol-returns-clause-is
+symbol-returns-clause-is t c = λ named right.
+    let l = c.loop-argument in
+    symbol_whole (of_tree c.args.self.now named) c.args.symbol c.args.args.now l.argument-index l.pats l.nodes c.loop-argument-test.false (l.invariant.1 named right)
 
 pub chain-returns-then-folded-most-clause-is : goal.chain-returns-then-folded-most-clause-is
 chain-returns-then-folded-most-clause-is t c = λ named right sized.

@@ -1,16 +1,15 @@
 use Rattle.std.proofs.Common.{◌≡◌, ℕ, ◌≤◌, map, take, drop}
-use Rattle.std.specs.Prelude.{sum_by}
 use Rattle.dactl_model.specs.declared.program.Pat.{Pat}
 use Rattle.dactl_meaning.specs.Expansion.{pattern_nodes, chain}
 use Rattle.dactl_patterns.specs.Table.{IsRight}
-use Rattle.dactl_patterns.specs.Expanding.{of_tree, of_link, tree_nodes}
+use Rattle.dactl_patterns.specs.Expanding.{of_tree, of_link}
+use Rattle.dactl_patterns.proofs.Within.{AreSmall}
 use Rattle.dactl_patterns.proofs.expanding.Expander.+expanding.Given as goal
 
 -- those so far are expanded
-abbrev pub invariant-arguments-loop-argument : goal.invariant-arguments-loop-argument
-invariant-arguments-loop-argument l =
-    (l.nodes ≤ l.most)
-    × ((named : ℕ → ℕ → Pat) → IsRight named l.self.patterns.now → (l.pats ≡ map (of_tree l.self named) (take l.argument-index l.args)) × (l.nodes ≡ sum_by (tree_nodes l.self named) (take l.argument-index l.args)))
+abbrev pub invariant-symbol-loop-argument : goal.invariant-symbol-loop-argument
+invariant-symbol-loop-argument l =
+    (l.nodes ≤ l.most) × ((named : ℕ → ℕ → Pat) → IsRight named l.self.patterns.now → AreSmall (of_tree l.self named) (take l.argument-index l.args) l.pats l.nodes)
 
 -- what is folded so far, and the rest, is all
 abbrev pub invariant-chain-loop-link : goal.invariant-chain-loop-link
